@@ -1,8 +1,9 @@
 //! Writes a run so that it can be read: its calls as a script that plays them, and its report with each call above what
 //! the call printed.
 //!
-//! It stands on `grammar_core` (scripts as they are read), `report_core` (what is printed of a bench), `run_core`
-//! (commands carried out on a bench) and `bench_core` (the machine), and names the plain types of the crates below.
+//! The crate stands on `grammar_core` (scripts as they are read), `report_core` (what is printed of a bench),
+//! `run_core` (commands carried out on a bench) and `bench_core` (the machine), and names the plain types of the crates
+//! below.
 //!
 //! The modules in reading order: `actors`, the names of those who act; `lines`, a call as a line; `script`, all calls
 //! as a script, and `read_back`, which reads the script again before it goes out; `fault`, why there is no script;
