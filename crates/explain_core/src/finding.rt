@@ -87,8 +87,8 @@ impl Hop {
         matches!(self.kind, Kind::Sent) && self.standing.is_same(wanted)
     }
 
-    /// Whether the step is a reason of this kind why the dot doesn't stand as `wanted` at the node: it forgot, missed
-    /// or sent the dot. `Came` is no such kind, and gives the answer for `Sent`.
+    /// Whether the step is of this kind, and so tells why the dot doesn't stand as `wanted` at the node: what
+    /// `is_forgotten_at`, `is_missed_at` or `is_sent_as` says. `Came` tells no reason, and gives the answer for `Sent`.
     fn is_why(&self, kind: Kind, node: u16, wanted: Standing) -> bool
         ensures { result ≡ is_why kind node wanted self.now }
     {
@@ -121,8 +121,7 @@ fn chain<A: Allocator>(alloc: A, hops: &[Hop], by: Option<u64>) -> Result<Vec<u6
     Ok(numbers)
 }
 
-/// The numbers, in order, of the steps that are a reason of this kind why the dot doesn't stand as `wanted` at the node
-/// (see `is_why`).
+/// The numbers of the steps for which `is_why` holds, in the order of `hops`.
 fn numbers_of<A: Allocator>(
     alloc: A,
     hops: &[Hop],

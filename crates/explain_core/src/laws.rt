@@ -12,8 +12,8 @@ pub fn chain_law()
     ensures { ChainLaw }
 {}
 
-/// At each node a presence stands as its track says. If the track names a step since which it stands so, that step
-/// remains and is one of the node.
+/// At each node a presence stands as its track says. If the track names a step since which the presence stands so, that
+/// step remains, and the node took it.
 pub fn standing_law()
     ensures { StandingLaw }
 {}

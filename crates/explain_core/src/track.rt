@@ -245,7 +245,8 @@ impl<A: Allocator> Track<A> {
 }
 
 impl<'a, B: Allocator> Track<&'a B> {
-    /// Follows the dot over one more step. `asked` is the bench after the step.
+    /// Follows `dot`, whose track this is, over one more step: appends what the step did to the dot, and notes how the
+    /// dot stands at the step's node. `asked` is the bench after the step.
     #[tactic(auto, unfolding(crate::specs::Tracks::followed))]
     pub fn follow(&mut self, dot: Dot, asked: &Bench<'a, B>, kept: &Kept<&'a B>) -> Result<(), Oom>
         ensures { OnOk result (self.new ≡ followed dot asked.now kept.now self.old) }
