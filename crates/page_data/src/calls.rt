@@ -23,7 +23,8 @@ use std::alloc::Allocator;
 use transcript_core::put_call;
 
 /// Appends the dots of the rows that left and joined the online list of a node, and what the node has seen of each name
-/// of which `before`, what the node had seen before the call, says otherwise. `count` is the number of names.
+/// for which this differs from `before`. `before` is what the node had seen before the call, `count` the number of
+/// names.
 #[tactic(auto, unfolding(crate::specs::PageData::changed_text))]
 fn put_changed<'a, B: Allocator>(
     text: &mut String<&'a B>,

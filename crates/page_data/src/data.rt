@@ -22,7 +22,7 @@ fn put_names<A: Allocator, N: Allocator>(text: &mut String<A>, names: &Names<N>)
     Ok(())
 }
 
-/// Appends the texts as strings, separated by commas.
+/// Appends the texts as JSON strings, separated by commas, without brackets.
 pub fn put_texts<A: Allocator, C: Allocator>(
     text: &mut String<A>,
     texts: &TextSet<C>,
@@ -77,7 +77,8 @@ fn put_cast<A: Allocator, C: Allocator>(
     Ok(text.push_str("],\"calls\":[")?)
 }
 
-/// The data of a page through its last call, without the brackets that close the list of calls and the data.
+/// The data of a page from its beginning through the last call. The brackets that close the list of calls and the data
+/// are missing.
 #[tactic(auto, unfolding(crate::specs::PageData::run_text))]
 fn run_text<'a, B: Allocator>(
     bench: &Bench<'a, B>,
@@ -99,8 +100,8 @@ fn run_text<'a, B: Allocator>(
 }
 
 /// The data of the page of a bench, as JSON: the names of the nodes, the names of the consoles, which `consoles` has,
-/// and what the page tells of each recorded call. No `<` stands in the data. The calls are made again for this, on a
-/// new bench with the same names and limits.
+/// and what the page tells of each recorded call. No `<` stands in the data. To tell of the calls, `page_data` makes
+/// them again on a new bench with the same names and limits.
 #[tactic(auto, unfolding(crate::specs::PageData::page_data))]
 pub fn page_data<'a, B: Allocator>(
     bench: &Bench<'a, B>,

@@ -38,7 +38,7 @@ pub fn past_law()
 {}
 
 /// Applied to how a dot stood at a node before a delivery, the hops of the delivery give how the dot stands at the node
-/// after it. This holds of the dots of the first names, as many as the hops were asked for.
+/// after the delivery. The dot's name must be one of those that the hops tell of.
 pub fn hops_law()
     ensures { HopsLaw }
 {}

@@ -71,8 +71,8 @@ fn put_arrival<'a, B: Allocator>(
 }
 
 /// Appends what a step reads before it is taken: `prev`, the number of its node's last remaining step, if there is one;
-/// and `from`, if the step delivers a message, the number of the step that sent this message. For a delivery come then
-/// what the node misses and what the delivery changes. `bench` is the bench before the step.
+/// and `from`, if the step delivers a message, the number of the step that sent this message. For a delivery, what the
+/// node misses and what the delivery changes come next. `bench` is the bench before the step.
 #[tactic(auto, unfolding(crate::specs::PageData::reads_keys))]
 pub fn put_reads<'a, B: Allocator>(
     text: &mut String<&'a B>,
@@ -132,7 +132,7 @@ fn put_carried<'a, B: Allocator>(
 }
 
 /// Appends the number of the node's last message, which `step` sent, and what the message carries. `name` is the node's
-/// own.
+/// own name, and `count` the number of names.
 fn put_outbox<'a, B: Allocator>(
     text: &mut String<&'a B>,
     step: &Step<&'a B>,
