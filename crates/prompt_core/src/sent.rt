@@ -50,7 +50,7 @@ fn put_entry<A: Allocator, N: Allocator, W: Allocator>(
     Ok(writeln!(text, "{node}/{pid} {metadata}")?)
 }
 
-/// Appends the rows of the entries, each after `= `.
+/// Appends the rows of the entries by rising dot, each as a line after `= `.
 fn put_entries<'a, A: Allocator, B: Allocator, N: Allocator>(
     entries: &EntrySet<&'a B>,
     text: &mut String<A>,

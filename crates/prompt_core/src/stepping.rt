@@ -25,8 +25,8 @@ use stream_core::{Steps, next_line};
 const KEPT: usize = 4097;
 
 /// Answers each line before it reads the next, to the end of the input or a line that ends the prompt. The prompt must
-/// have taken no line yet. If `has_signs`, a call of `show_sign` comes before each read of a line, until one of these
-/// calls fails.
+/// have taken no line yet. If `has_signs`, shows a sign on `errors` before it reads each line, until `show_sign` fails
+/// once.
 fn answer_each<'a, B: Allocator, R: Read, W: Write, E: Write, L: Ledger>(
     prompt: &mut Prompt<'a, B>,
     heap: Global,
