@@ -32,8 +32,8 @@ impl<A: Allocator> Model for Asked<A> {
     ghost view = { λ a. record { node = a.node; topic = a.topic; key = a.key } };
 }
 
-/// A change of a node's lane: the row at which the node begins or stops listing what is asked about. It has nothing to
-/// do with the turns in which `order_core` finds an order.
+/// A change of a node's lane: the row at which the node begins or stops listing what is asked about. Such a turn has
+/// nothing to do with the turns in which `order_core` finds an order.
 #[derive(Clone, Copy, Debug, PartialEq, Eq)]
 pub struct Turn {
     pub row: u32,
@@ -42,7 +42,7 @@ pub struct Turn {
 }
 
 impl<A: Allocator> Asked<A> {
-    /// Whether the node is asked about.
+    /// Whether the node is asked about; each node is, if the question names none.
     pub fn is_of(&self, node: u32) -> bool
         ensures { result ≡ is_of self.now.node node }
     {
