@@ -218,7 +218,7 @@ fn put_events<'a, B: Allocator>(
 }
 
 /// What is drawn of the calls that a bench recorded: the rows in `range`, the messages that `range` shows, and every
-/// change of the lanes by what `of` asks about. To draw the calls, `layers_of` makes them again on a new bench.
+/// change of a lane for the topic and key in `of`. To draw the calls, `layers_of` makes them again on a new bench.
 #[tactic(auto, unfolding(crate::specs::Pictures::messages, crate::specs::Pictures::rows, crate::specs::Pictures::longest, crate::specs::Pictures::turns))]
 pub fn layers_of<'a, B: Allocator>(
     bench: &Bench<'a, B>,

@@ -42,7 +42,7 @@ pub struct Turn {
 }
 
 impl<A: Allocator> Asked<A> {
-    /// Whether the node is asked about; each node is, if the question names none.
+    /// Whether the node is asked about; each node is, if `self.node` is `None`.
     pub fn is_of(&self, node: u32) -> bool
         ensures { result ≡ is_of self.now.node node }
     {
