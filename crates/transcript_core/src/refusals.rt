@@ -78,8 +78,8 @@ fn ask_unwind<'a, B: Allocator>(
     Ok(refusal)
 }
 
-/// Carries out an act or an unwind, and gives why it was refused; `None` if it wasn't. Other commands only print, so
-/// for these nothing is done, and the answer is `None`. Nothing is printed.
+/// Carries out an act or an unwind, drops what that prints, and gives why it was refused; `None` if it wasn't. Other
+/// commands only print: for these it does nothing, and gives `None`.
 #[tactic(auto, unfolding(crate::specs::Refusals::refusal_of, run_core::specs::Report::after_command))]
 fn obey<'a, B: Allocator>(
     bench: &mut Bench<'a, B>,
