@@ -85,7 +85,7 @@ fn put_step_if<'a, A: Allocator, B: Allocator>(
     }
 }
 
-/// Appends a line for each of the steps with these numbers.
+/// Appends a line (see `put_labelled`) for each of the steps with these numbers that remains.
 #[tactic(auto, unfolding(crate::specs::Explanations::step_lines))]
 fn put_steps<'a, A: Allocator, B: Allocator>(
     bench: &Bench<'a, B>,
@@ -133,7 +133,7 @@ fn put_left<'a, A: Allocator, B: Allocator>(
     }
 }
 
-/// Appends how the presence stands at the node, and why.
+/// Appends `at NODE VERDICT`, which says how the presence stands at the node, and a line for each step that tells why.
 #[tactic(auto, unfolding(crate::specs::Explanations::node_text, crate::specs::Explanations::finding_text))]
 fn put_node<'a, A: Allocator, B: Allocator>(
     bench: &Bench<'a, B>,
@@ -232,7 +232,7 @@ fn put_tracked<'a, A: Allocator, B: Allocator>(
     put_removal(bench, text, node, making.dot, track, alloc)
 }
 
-/// Appends what `explain` tells of each of these presences.
+/// Appends what `explain` tells of each presence in `traced`, in this order.
 fn put_traced<'a, A: Allocator, B: Allocator>(
     bench: &Bench<'a, B>,
     text: &mut String<A>,
@@ -250,7 +250,8 @@ fn put_traced<'a, A: Allocator, B: Allocator>(
     Ok(())
 }
 
-/// Appends what `explain` tells of each of these presences. One walk over the steps follows all their tracks.
+/// Appends what `explain` tells of each presence in `makings`, in this order. One walk over the steps follows all these
+/// presences.
 fn put_some<'a, A: Allocator, B: Allocator>(
     bench: &Bench<'a, B>,
     text: &mut String<A>,
@@ -270,8 +271,8 @@ fn put_some<'a, A: Allocator, B: Allocator>(
     put
 }
 
-/// Appends what `explain` tells of each presence. Follows up to 512 presences at a time, so that their tracks take
-/// little memory.
+/// Appends what `explain` tells of each presence in `makings`, in this order. Each walk over the steps follows up to
+/// 512 presences, so that the tracks take little memory.
 #[tactic(auto, unfolding(crate::specs::Explanations::making_texts))]
 fn put_makings<'a, A: Allocator, B: Allocator>(
     bench: &Bench<'a, B>,

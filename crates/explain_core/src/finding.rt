@@ -27,7 +27,7 @@ pub enum Verdict {
     Removed,
     /// The presence left at its own node, and its dot is unseen at the node that is asked about.
     Left,
-    /// The node had seen the presence, and forgot all dots of the presence's name.
+    /// The node had seen the presence's dot, live or gone, and forgot all dots of the presence's name.
     Forgotten,
     /// The presence was delivered while the node didn't know the presence's name, so the node took nothing of it.
     Missed,
@@ -37,7 +37,7 @@ pub enum Verdict {
     Unsent,
 }
 
-/// A verdict, with the numbers of the steps that it rests on.
+/// A verdict, with the numbers of the steps that it rests on, in the order of the steps.
 #[derive(Drop)]
 pub struct Finding<A: Allocator> {
     pub verdict: Verdict,
@@ -72,7 +72,8 @@ impl Hop {
         matches!(self.kind, Kind::Forgot) && self.node == node && !wanted.is_above(self.standing)
     }
 
-    /// Whether this step delivered a message in which the dot stands as `wanted`, and the node missed the dot.
+    /// Whether this step delivered to the node a message in which the dot stands as `wanted`, and the node missed the
+    /// dot.
     fn is_missed_at(&self, node: u16, wanted: Standing) -> bool
         ensures { result ≡ is_missed_at node wanted self.now }
     {
@@ -86,8 +87,8 @@ impl Hop {
         matches!(self.kind, Kind::Sent) && self.standing.is_same(wanted)
     }
 
-    /// Whether the step is of this kind, and `missing` may name it if the dot doesn't stand as `wanted` at the node.
-    /// For `Came` the answer is that for `Sent`.
+    /// Whether the step is of this kind, and so tells why the dot doesn't stand as `wanted` at the node: what
+    /// `is_forgotten_at`, `is_missed_at` or `is_sent_as` says. `Came` tells no reason, and gives the answer for `Sent`.
     fn is_why(&self, kind: Kind, node: u16, wanted: Standing) -> bool
         ensures { result ≡ is_why kind node wanted self.now }
     {
@@ -99,9 +100,8 @@ impl Hop {
     }
 }
 
-/// The numbers of the sends and deliveries that brought the dot to the step `by`, in their order. The last of them is
-/// `by`; there are none if `by` is `None`, or is neither a send nor a delivery. The search goes back from hop to hop,
-/// each time to the step that made what the hop read.
+/// The numbers of the sends and deliveries that brought the dot to the step `by`, in their order: each step made what
+/// the next one read, and the last is `by`. Empty if `by` is `None`, or a step that neither sent nor brought the dot.
 #[tactic(auto, unfolding(crate::specs::Findings::backwards))]
 fn chain<A: Allocator>(alloc: A, hops: &[Hop], by: Option<u64>) -> Result<Vec<u64, A>, Oom>
     ensures { IfOk result (λ numbers. numbers.items ≡ chain hops.now by) }
@@ -121,7 +121,7 @@ fn chain<A: Allocator>(alloc: A, hops: &[Hop], by: Option<u64>) -> Result<Vec<u6
     Ok(numbers)
 }
 
-/// The numbers of the steps of this kind that `missing` may name if the dot doesn't stand as `wanted` at the node.
+/// The numbers of the steps for which `is_why` holds, in the order of `hops`.
 fn numbers_of<A: Allocator>(
     alloc: A,
     hops: &[Hop],
@@ -138,7 +138,8 @@ fn numbers_of<A: Allocator>(
 }
 
 /// Why the dot doesn't stand as `wanted` at the node: `Forgotten`, `Missed`, `Undelivered` or `Unsent`, the first of
-/// these that holds.
+/// these that holds. `Forgotten` and `Missed` come with the steps that did so, `Undelivered` with those that sent the
+/// dot as `wanted`.
 #[tactic(auto, unfolding(crate::specs::Findings::missing))]
 pub fn missing<A: Allocator + Copy>(
     alloc: A,
@@ -174,7 +175,7 @@ pub fn missing<A: Allocator + Copy>(
     Ok(Finding { verdict, steps })
 }
 
-/// Whether the name is up at the node; false if there is no such node or it doesn't know the name.
+/// Whether the name is up at the node; false if there is no such node, or the node doesn't know the name.
 #[tactic(auto, unfolding(crate::specs::Findings::is_up_at, report_core::specs::Shown::node_of))]
 fn is_up_at<'a, B: Allocator>(bench: &Bench<'a, B>, node: u16, name: u16) -> bool
     ensures { result ≡ is_up_at bench.now node name }
@@ -205,7 +206,7 @@ fn brought<A: Allocator, T: Allocator>(
     Ok(Finding { verdict, steps })
 }
 
-/// How the presence of a dot stands at a node, and why.
+/// How the presence of `dot` stands at the node, with the steps that tell why. `track` must be the dot's track.
 #[tactic(auto, unfolding(crate::specs::Findings::finding_of))]
 pub fn finding_of<'a, B: Allocator>(
     bench: &Bench<'a, B>,
@@ -266,7 +267,7 @@ fn last_status<'a, B: Allocator>(journal: &Journal<'a, B>, node: u16, name: u16)
     last
 }
 
-/// For each name below `names`, what `last_status` gives.
+/// What `last_status` gives for each name below `names`, in the order of the names.
 pub fn last_statuses<'a, B: Allocator>(
     journal: &Journal<'a, B>,
     node: u16,

@@ -28,9 +28,9 @@ pub struct Hop {
     pub standing: Standing,
     /// The number of the message that the step sent; 0 for other steps.
     pub message: u64,
-    /// The number of the step that made what this step read. A delivery read a message, which its send made. Any other
-    /// step read how the dot stood at the node before it, and the step since which the dot stood so made that. `None`
-    /// if there is no such step.
+    /// The number of the step that made what this step read. For a delivery that is the step that sent the message; for
+    /// any other, the step since which the dot stood at the node as it did before this step. `None` if there is no such
+    /// step.
     pub reads: Option<u64>,
 }
 
@@ -47,6 +47,6 @@ impl Hop {
 #[derive(Clone, Copy, Debug, PartialEq, Eq)]
 pub struct Stand {
     pub standing: Standing,
-    /// The number of that step; `None` if the dot has stood unseen there from the beginning.
+    /// The number of the step since which the dot stands so; `None` if it was unseen at the node from the beginning.
     pub by: Option<u64>,
 }

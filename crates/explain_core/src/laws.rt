@@ -12,28 +12,28 @@ pub fn chain_law()
     ensures { ChainLaw }
 {}
 
-/// At each node a presence stands as its track says. If the track names a step since which it stands so, that step
-/// remains and is one of the node.
+/// At each node a presence stands as its track says. If the track names a step since which the presence stands so, that
+/// step remains, and the node took it.
 pub fn standing_law()
     ensures { StandingLaw }
 {}
 
-/// Each step of a track is a remaining step of its node that did what the track says. In the message of a send or a
-/// delivery the dot stands as the track says, and the step that a delivery read from is the one that sent its message.
-/// A step that forgot the dot took the dot's name permanently down.
+/// Each step of a track remains, is of the node that the track names, and did what the track says. In the message that
+/// a step sent or delivered the dot stands as the track says, and a delivery read the step that sent the message. A
+/// step that forgot the dot took the dot's name permanently down.
 pub fn step_law()
     ensures { StepLaw }
 {}
 
-/// Where an explanation says that a presence, or its removal, was never sent, no message has the presence, or the
-/// removal.
+/// If an explanation says that a presence was never sent, the presence's dot is live in no message. If it says so of
+/// the presence's removal, the dot is gone in no message.
 pub fn unsent_law()
     ensures { UnsentLaw }
 {}
 
-/// An explanation may say that a presence, or its removal, was sent and not delivered. Then each step that the
-/// explanation names sent a message that has the presence, or its removal, and no remaining step of the node delivered
-/// that message.
+/// If an explanation says that a presence, or its removal, was sent and not delivered, each step that the explanation
+/// names for this sent a message with the presence, or the removal, and no remaining step of the node delivered that
+/// message.
 pub fn undelivered_law()
     ensures { UndeliveredLaw }
 {}

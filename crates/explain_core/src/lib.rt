@@ -1,6 +1,6 @@
 //! Why a presence is online at a node of a bench, or why not, told by the steps that remain.
 //!
-//! The crate stands on `bench_core`, whose fresh bench is asked the steps again, and on `report_core`, which prints
+//! The crate stands on `bench_core`, as it asks the steps again of a fresh bench, and on `report_core`, which prints
 //! steps. It names the plain types of the crates below. The modules in reading order: `standing`, how a dot stands at a
 //! node and in a message; `hop`, what a step did to a dot; `track`, how a dot came to stand as it does, step by step;
 //! `tracking`, the remaining steps asked again; `making`, the steps that made presences of a topic and key; `tracing`,

@@ -16,7 +16,8 @@ pub struct Making {
     pub dot: Dot,
 }
 
-/// The dot under which the node tracks the process, topic and key; `None` if it doesn't track them.
+/// The dot under which the node tracks the process, topic and key; `None` if the node doesn't track them, or there is
+/// no such node.
 #[tactic(auto, unfolding(crate::specs::Makings::tracked_dot, report_core::specs::Shown::node_of))]
 fn tracked_dot<'a, B: Allocator>(
     bench: &Bench<'a, B>,

@@ -19,8 +19,8 @@ pub enum Standing {
 }
 
 impl Standing {
-    /// Whether this standing is greater than `other`, in the order unseen, live, gone. If so, a delivery of a message
-    /// in which the dot stands like this replaces `other`, the dot's standing at a node that knows the dot's name.
+    /// Whether this standing comes after `other` in the order unseen, live, gone. A delivery replaces a dot's standing
+    /// at the node by that in the message, if the latter is above the former and the node knows the dot's name.
     pub fn is_above(self, other: Standing) -> bool
         ensures { result ≡ is_above self other }
     {

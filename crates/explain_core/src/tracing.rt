@@ -41,7 +41,7 @@ impl<'a, B: Allocator> Traced<&'a B> {
     }
 }
 
-/// Appends the presence of `making` with an empty track: its dot stands unseen at each of `nodes` nodes.
+/// Appends the presence of `making` with an empty track, in which the presence's dot is unseen at all `nodes` nodes.
 fn put_untraced<'a, B: Allocator>(
     traced: &mut Vec<Traced<&'a B>, &'a B>,
     making: Making,
@@ -54,7 +54,7 @@ fn put_untraced<'a, B: Allocator>(
     Ok(traced.push(Traced { making, track })?)
 }
 
-/// The presences, each with an empty track for `nodes` nodes.
+/// The presences of `makings` in their order, each with an empty track for `nodes` nodes.
 fn untraced<'a, B: Allocator>(
     makings: &[Making],
     nodes: usize,
@@ -120,7 +120,8 @@ fn follow_all<'a, B: Allocator>(
     answer
 }
 
-/// The presences, each with the track of its dot over all remaining steps.
+/// The presences of `makings` in their order, each with the track of its dot over all remaining steps. One walk over
+/// the steps follows all the dots.
 pub fn traced_of<'a, B: Allocator>(
     bench: &Bench<'a, B>,
     makings: &[Making],

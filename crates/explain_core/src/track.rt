@@ -28,7 +28,7 @@ impl<A: Allocator> Model for Track<A> {
     ghost view = { λ t. record { stands = t.stands.items; hops = t.hops.items } };
 }
 
-/// How the dot stands at a node; unseen, by no step, if there is no such node.
+/// How the dot stands at a node, and since which step; unseen from the beginning, if there is no such node.
 pub fn stand_at(stands: &[Stand], node: u16) -> Stand
     ensures { result ≡ stand_at stands.now node }
 {
@@ -38,8 +38,8 @@ pub fn stand_at(stands: &[Stand], node: u16) -> Stand
     })
 }
 
-/// The number of the step that sent this message of the node; `None` if none of the hops did, because the dot isn't in
-/// the message.
+/// The number of the step that sent this message of the node; `None` if no hop is that send, as the message doesn't
+/// have the dot or wasn't sent.
 fn sender_among(hops: &[Hop], node: u16, message: u64) -> Option<u64>
     ensures { result ≡ sender_among hops.now node message }
 {
@@ -85,7 +85,7 @@ fn sent_hop<A: Allocator>(
 }
 
 /// The hop of a delivery: the dot stands as `told` in the message, stood as `before` at the node, and stands there as
-/// `now`. `None` if the dot stands at the node as before, and the node doesn't miss it in the message.
+/// `now`. `Came` if `now` is another standing than before; else `Missed`, if `told` is above `now`; else `None`.
 fn delivered_hop<A: Allocator>(
     kept: &Kept<A>,
     before: Stand,
@@ -170,7 +170,7 @@ fn is_told<'a, B: Allocator>(asked: &Bench<'a, B>, node: u16, message: u64, dot:
     !standing_sent(asked, node, message, dot).is_same(Standing::Unseen)
 }
 
-/// Whether the step, of the node `node`, may change how a dot of this name stands there, other than by a message.
+/// Whether the step, which `node` took, may change without a delivery how a dot of this name stands at `node`.
 fn is_changed<A: Allocator>(step: &Step<A>, node: u16, name: u16) -> bool
     ensures { result ≡ is_changed (plain step.now) node name }
 {
@@ -245,7 +245,8 @@ impl<A: Allocator> Track<A> {
 }
 
 impl<'a, B: Allocator> Track<&'a B> {
-    /// Follows the dot over one more step. `asked` is the bench after the step.
+    /// Follows `dot`, whose track this is, over one more step: appends what the step did to the dot, and notes how the
+    /// dot stands at the step's node. `asked` is the bench after the step.
     #[tactic(auto, unfolding(crate::specs::Tracks::followed))]
     pub fn follow(&mut self, dot: Dot, asked: &Bench<'a, B>, kept: &Kept<&'a B>) -> Result<(), Oom>
         ensures { OnOk result (self.new ≡ followed dot asked.now kept.now self.old) }

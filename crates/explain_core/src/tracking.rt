@@ -6,7 +6,7 @@ use bench_core::{Act, Bench, Fault, Kept, Reply};
 use payload_core::Oom;
 use std::alloc::Allocator;
 
-/// A fresh bench with the same names and limits.
+/// A new bench with the names and limits of `bench`, on which nothing was asked yet.
 pub fn opened<'a, B: Allocator>(bench: &Bench<'a, B>, alloc: &'a B) -> Result<Bench<'a, B>, Oom>
     ensures { IfOk result (λ asked. asked ≡ opened bench.now) }
 {

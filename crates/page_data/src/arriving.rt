@@ -1,7 +1,7 @@
-//! What the delivery of a message changes at a node, its hops: `NAME,CLOCK,STANDING` of each dot that stands otherwise
+//! The hops of a delivery, which tell what changes at the node: `NAME,CLOCK,STANDING` of each dot that stands otherwise
 //! after the delivery. And what the node misses: `NAME,CLOCK,MORE` of each name that the message has dots of and the
-//! node doesn't know. NAME is the number of a name; STANDING is 0 unseen, 1 live, 2 gone. In the second form CLOCK is
-//! the name's context clock in the message, and MORE is how many clocks the name's cloud has there.
+//! node doesn't know. NAME is the number of a name. In a hop CLOCK is the dot's clock, and STANDING is 1 live, 2 gone.
+//! In the second form CLOCK is the name's context clock in the message, and MORE counts the clocks of its cloud there.
 ghost use Rattle.std.specs.Prelude.{◌≡◌, ◌++◌, ◌<◌, ◌≤◌, IfOk, OnOk, option_map};
 ghost use Rattle.std.specs.List.{flat_map};
 ghost use Rattle.store_core.specs.Stores.{store_of};
@@ -86,14 +86,14 @@ fn put_hops_of<A: Allocator + Copy, R: Allocator>(
     put_each_hop(numbers, replica, message, name, &clocks)
 }
 
-/// Whether the replica knows the name, and it isn't the replica's own.
+/// Whether the replica knows the name, and the name isn't the replica's own.
 fn is_other_known<R: Allocator>(replica: &Replica<R>, name: u16) -> bool
     ensures { result ≡ is_other_known replica.now name }
 {
     replica.status(name).is_some() && name != replica.own()
 }
 
-/// Like `put_hops_of`, but appends nothing if the replica doesn't know the name, or it is the replica's own.
+/// Like `put_hops_of`, but appends nothing if the replica doesn't know the name, or if the name is the replica's own.
 fn put_hops_if<A: Allocator + Copy, R: Allocator>(
     numbers: &mut Vec<u64, A>,
     replica: &Replica<R>,
@@ -167,7 +167,7 @@ fn put_missed_if<A: Allocator>(
     Ok(())
 }
 
-/// Like `put_missed_if`, but looks up the name at the replica and its dots in the message.
+/// Like `put_missed_if`, but looks up whether the replica knows the name, and which dots of the name the message has.
 fn put_missed<A: Allocator, R: Allocator>(
     numbers: &mut Vec<u64, A>,
     replica: &Replica<R>,

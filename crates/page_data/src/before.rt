@@ -23,8 +23,8 @@ pub struct Before<'a, B: Allocator> {
     /// The node that the call asks to change. For a step it is the actor, even one that isn't a node; for an undo or a
     /// back it is the node of the step to take back, or `None` if there is no such step.
     pub node: Option<u16>,
-    /// How the step that the call asks to take back had changed the online list of its node. No rows if the call is a
-    /// step, or if it will be refused.
+    /// How the step that the call asks to take back had changed its node's online list. No rows if the call is a step,
+    /// or an undo or a back that will be refused.
     pub undone: Diff<&'a B>,
     /// What `node` had seen of each name; empty if there is no such node.
     pub seen: Vec<Seen, &'a B>,

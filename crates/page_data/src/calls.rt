@@ -23,7 +23,8 @@ use std::alloc::Allocator;
 use transcript_core::put_call;
 
 /// Appends the dots of the rows that left and joined the online list of a node, and what the node has seen of each name
-/// for which that changed. `before` is what the node had seen before the call; `count` is the number of names.
+/// for which this differs from `before`. `before` is what the node had seen before the call, `count` the number of
+/// names.
 #[tactic(auto, unfolding(crate::specs::PageData::changed_text))]
 fn put_changed<'a, B: Allocator>(
     text: &mut String<&'a B>,
@@ -130,7 +131,8 @@ fn put_step<'a, B: Allocator>(
     put
 }
 
-/// Appends the node of the step that was taken back, and what the undo changed there; nothing if `before` has no node.
+/// Appends the node of the step that was taken back, and what the undo changed at this node; nothing if `before` has no
+/// node.
 fn put_undone_at<'a, B: Allocator>(
     text: &mut String<&'a B>,
     bench: &Bench<'a, B>,
@@ -157,7 +159,8 @@ fn put_undone_at<'a, B: Allocator>(
     )
 }
 
-/// Appends what the page tells of a step that was taken back. `bench` is the bench after the undo.
+/// Appends what the page tells of a step that was taken back, the step `number`. `bench` is the bench after the undo;
+/// `before` is what `Before::of` gave just before it.
 #[tactic(auto, unfolding(crate::specs::PageData::undone_text))]
 fn put_undone<'a, B: Allocator>(
     text: &mut String<&'a B>,
@@ -173,8 +176,8 @@ fn put_undone<'a, B: Allocator>(
     put_undone_at(text, bench, before, alloc)
 }
 
-/// Appends, for `HasConsequence`, the step whose undo was refused and the step by which it is held; nothing for another
-/// fault.
+/// Appends, for `HasConsequence`, the step whose undo was refused and the consequence that holds this step; nothing for
+/// another fault.
 fn put_held<A: Allocator>(text: &mut String<A>, fault: Fault) -> Result<(), Oom>
     ensures { OnOk result (string_bytes text.new ≡ string_bytes text.old ++ held_keys fault) }
 {

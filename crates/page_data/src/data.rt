@@ -22,7 +22,7 @@ fn put_names<A: Allocator, N: Allocator>(text: &mut String<A>, names: &Names<N>)
     Ok(())
 }
 
-/// Appends the texts as strings, separated by commas.
+/// Appends the texts as JSON strings, separated by commas, without brackets.
 pub fn put_texts<A: Allocator, C: Allocator>(
     text: &mut String<A>,
     texts: &TextSet<C>,
@@ -77,7 +77,8 @@ fn put_cast<A: Allocator, C: Allocator>(
     Ok(text.push_str("],\"calls\":[")?)
 }
 
-/// The data of a page, up to the last call. What closes the list of calls and the data is still to be appended.
+/// The data of a page from its beginning through the last call. The brackets that close the list of calls and the data
+/// are missing.
 #[tactic(auto, unfolding(crate::specs::PageData::run_text))]
 fn run_text<'a, B: Allocator>(
     bench: &Bench<'a, B>,
@@ -99,8 +100,8 @@ fn run_text<'a, B: Allocator>(
 }
 
 /// The data of the page of a bench, as JSON: the names of the nodes, the names of the consoles, which `consoles` has,
-/// and what the page tells of each recorded call. To tell it, this makes the calls again on a new bench with the same
-/// names and limits. No `<` stands in the data.
+/// and what the page tells of each recorded call. No `<` stands in the data. To tell of the calls, `page_data` makes
+/// them again on a new bench with the same names and limits.
 #[tactic(auto, unfolding(crate::specs::PageData::page_data))]
 pub fn page_data<'a, B: Allocator>(
     bench: &Bench<'a, B>,
@@ -114,8 +115,8 @@ pub fn page_data<'a, B: Allocator>(
     Ok(text)
 }
 
-/// Like `page_data`, but with further `keys` after the calls, each with a comma before it. No `<` stands in the data if
-/// none stands in `keys`.
+/// Like `page_data`, but with `keys` after the calls: further keys of the JSON object, each with a comma before it. No
+/// `<` stands in the data if none stands in `keys`.
 #[tactic(auto, unfolding(crate::specs::PageData::data_with))]
 pub fn page_data_with<'a, B: Allocator>(
     bench: &Bench<'a, B>,

@@ -145,7 +145,7 @@ pub fn put_numbers_key<A: Allocator>(
     Ok(text.push_str("]")?)
 }
 
-/// Appends `,"KEY":"TEXT"`.
+/// Appends `,"KEY":STRING`, where `put_string` writes the string. The key gets no escapes.
 #[tactic(auto, unfolding(crate::specs::Json::text_key))]
 pub fn put_text_key<A: Allocator>(text: &mut String<A>, key: &str, string: &str) -> Result<(), Oom>
     ensures { OnOk result (string_bytes text.new ≡ string_bytes text.old ++ text_key key.now string.now) }

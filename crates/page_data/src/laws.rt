@@ -37,8 +37,8 @@ pub fn past_law()
     ensures { PastLaw }
 {}
 
-/// The hops of a delivery tell of the dots of the first `count` names. Applied to how such a dot stood before the
-/// delivery, they give how the dot stands after it.
+/// Applied to how a dot stood at a node before a delivery, the hops of the delivery give how the dot stands at the node
+/// after the delivery. The dot's name must be one of those that the hops tell of.
 pub fn hops_law()
     ensures { HopsLaw }
 {}

@@ -1,11 +1,11 @@
 //! The data of a page that shows a run: its calls as JSON.
 //!
-//! For each recorded call it tells what was asked and answered, and which steps the call's step follows from directly.
-//! It also tells which rows left and joined the online list of the call's node, what changed in what that node has
-//! seen, and what the message carries that the call's step sent, if it sent one.
+//! For each recorded call the data tells what was asked and answered, and which steps the call's step follows from
+//! directly. It also tells which rows left and joined the online list of the call's node, what changed in what that
+//! node has seen, and what the message carries that the call's step sent, if that step sent one.
 //!
-//! It stands on `report_core` (what a call changed of online lists), `transcript_core` (a call as a line of a script)
-//! and `bench_core` (the machine), and names the plain types of the crates below.
+//! The crate stands on `report_core` (what a call changed of online lists), `transcript_core` (a call as a line of a
+//! script) and `bench_core` (the machine), and names the plain types of the crates below.
 //!
 //! The modules in reading order: `json`, strings and lists of numbers; `seen`, what a node has seen of each name;
 //! `clocks`, the dots of a name, and how a dot stands; `arriving`, what a delivery changes, and what its node misses;

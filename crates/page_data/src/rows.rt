@@ -66,8 +66,8 @@ fn is_own<W: Allocator>(step: &Step<W>) -> bool
     )
 }
 
-/// Appends the key `hops` of a step that changes the node's own presences: the dots of the rows that left (2, gone),
-/// and of those that joined (1, live). Appends nothing for other steps, or if no row left or joined.
+/// Appends the key `hops` of a step that changes the node's own presences: `NAME,CLOCK,2` (gone) of each row that left,
+/// then `NAME,CLOCK,1` (live) of each that joined. Appends nothing for other steps, or if no row left or joined.
 #[tactic(auto, unfolding(crate::specs::PageData::own_keys))]
 pub fn put_own_keys<A: Allocator, M: Allocator + Copy, R: Allocator, W: Allocator>(
     text: &mut String<A>,

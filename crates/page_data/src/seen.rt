@@ -119,8 +119,8 @@ fn put_change<A: Allocator>(
     Ok(())
 }
 
-/// `NAME,STATUS,CLOCK,MORE` of each of the first `count` names for which what the replica has seen differs from what
-/// `before` says, as a list of numbers.
+/// `NAME,STATUS,CLOCK,MORE` of each of the first `count` names whose `Seen` at the replica isn't the one in `before`,
+/// as a list of numbers.
 fn changes_of<A: Allocator, R: Allocator>(
     replica: &Replica<R>,
     before: &[Seen],
@@ -138,8 +138,8 @@ fn changes_of<A: Allocator, R: Allocator>(
     Ok(numbers)
 }
 
-/// `NAME,STATUS,CLOCK,MORE` of each of the first `count` names for which what the node has seen differs from what
-/// `before` says, as a list of numbers; empty without a node.
+/// `NAME,STATUS,CLOCK,MORE` of each of the first `count` names whose `Seen` at the node isn't the one in `before`, as a
+/// list of numbers; empty without a node.
 pub fn changes_in<'a, A: Allocator, B: Allocator>(
     node: Option<&Node<'a, B>>,
     before: &[Seen],

@@ -46,7 +46,7 @@ fn put_standing<A: Allocator, R: Allocator>(
     Ok(())
 }
 
-/// The clocks of the dots of `name` that stand as `wanted` in the message: 1 with their entries, 2 without.
+/// The clocks, rising, of the dots of `name` that stand as `wanted` in the message: 1 live, 2 gone.
 #[tactic(auto, unfolding(crate::specs::Carried::clocks_standing))]
 pub fn clocks_standing<A: Allocator + Copy, R: Allocator>(
     message: &Payload<R>,
@@ -94,7 +94,7 @@ fn put_name_of<A: Allocator, R: Allocator>(
     put_name_if(numbers, name, last_of(seen, name), more_of(seen, name))
 }
 
-/// The names below `count` of which the message has dots.
+/// The names below `count` of which the message has dots, as numbers in rising order.
 pub fn names_in<A: Allocator, R: Allocator>(
     message: &Payload<R>,
     count: u16,

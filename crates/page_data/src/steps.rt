@@ -29,7 +29,8 @@ fn message_in<'x, 'a, B: Allocator>(
     }
 }
 
-/// Appends what the delivery of a message changes at a node, and what the node misses.
+/// Appends what a node misses of a message, as `missed`, and what the message's delivery changes at the node, as
+/// `hops`. A key without numbers is left out.
 #[tactic(auto, unfolding(crate::specs::PageData::delivery_keys))]
 fn put_delivery<'a, B: Allocator>(
     text: &mut String<&'a B>,
@@ -48,7 +49,8 @@ fn put_delivery<'a, B: Allocator>(
     put_numbers_key(text, "hops", &hops)
 }
 
-/// Appends, if the step is a delivery, what it changes at its node and what the node misses.
+/// Appends, if the step is a delivery, what `put_delivery` does for the step's node and message; nothing for another
+/// step. `bench` is the bench before the step.
 fn put_arrival<'a, B: Allocator>(
     text: &mut String<&'a B>,
     bench: &Bench<'a, B>,
@@ -69,8 +71,8 @@ fn put_arrival<'a, B: Allocator>(
 }
 
 /// Appends what a step reads before it is taken: `prev`, the number of its node's last remaining step, if there is one;
-/// and `from`, if the step delivers a message, the number of the step that sent this message. For a delivery it also
-/// appends what the delivery changes and what the node misses.
+/// and `from`, if the step delivers a message, the number of the step that sent this message. For a delivery, what the
+/// node misses and what the delivery changes come next. `bench` is the bench before the step.
 #[tactic(auto, unfolding(crate::specs::PageData::reads_keys))]
 pub fn put_reads<'a, B: Allocator>(
     text: &mut String<&'a B>,
@@ -129,7 +131,8 @@ fn put_carried<'a, B: Allocator>(
     }
 }
 
-/// Appends the number of the last message of a node, and what the message carries.
+/// Appends the number of the node's last message, which `step` sent, and what the message carries. `name` is the node's
+/// own name, and `count` the number of names.
 fn put_outbox<'a, B: Allocator>(
     text: &mut String<&'a B>,
     step: &Step<&'a B>,
@@ -210,7 +213,7 @@ fn put_made_text<A: Allocator, W: Allocator>(
     Ok(text.push_str("]")?)
 }
 
-/// Appends the presence that a step made, if it made one. `bench` is the bench after the step.
+/// Appends the presence that a join or an update made; nothing for another step. `bench` is the bench after the step.
 fn put_made<'a, B: Allocator>(
     text: &mut String<&'a B>,
     bench: &Bench<'a, B>,

@@ -7,7 +7,7 @@ use crate::standing::Standing;
 /// How a call or a message looks. A message has one of the first three kinds.
 #[derive(Clone, Copy, Debug, PartialEq, Eq)]
 pub enum Kind {
-    /// A step that remains.
+    /// A step that remains and isn't painted.
     Step,
     /// A step that remains and is painted, as a part of the future that is asked about.
     Future,

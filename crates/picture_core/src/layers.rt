@@ -85,8 +85,8 @@ fn put_drawn<'a, N: Allocator, B: Allocator>(
 }
 
 /// Notes in `layers` if the node `changed` begins or stops listing what `of` asks about, and draws the call if its row
-/// is in the range. `asked` is the bench after the call, `changed` the node that the call changed, and `acted` what the
-/// call came to.
+/// is in the range. `asked` is the bench after the call, `changed` the node that the call changed, and `acted` the
+/// reply to the call, with the change of that node's online list.
 #[tactic(auto, unfolding(crate::specs::Rows::row_if, crate::specs::Rows::with_words))]
 fn put_told<'a, B: Allocator>(
     asked: &Bench<'a, B>,
@@ -138,8 +138,8 @@ fn put_told<'a, B: Allocator>(
     )
 }
 
-/// Makes a recorded call on the bench `asked`, and draws in `layers` what `range` shows of it. Notes there, too, if the
-/// node that the call changed begins or stops listing what `of` asks about.
+/// Makes a recorded call on the bench `asked`, and draws in `layers` what `range` shows of the call. Also notes in
+/// `layers` if the node that the call changed begins or stops listing what `of` asks about.
 fn put_event<'a, B: Allocator>(
     asked: &mut Bench<'a, B>,
     layers: &mut Layers<'a, B>,
@@ -218,7 +218,7 @@ fn put_events<'a, B: Allocator>(
 }
 
 /// What is drawn of the calls that a bench recorded: the rows in `range`, the messages that `range` shows, and every
-/// change of the lanes. To draw the calls, this makes them again on a new bench.
+/// change of a lane for the topic and key in `of`. To draw the calls, `layers_of` makes them again on a new bench.
 #[tactic(auto, unfolding(crate::specs::Pictures::messages, crate::specs::Pictures::rows, crate::specs::Pictures::longest, crate::specs::Pictures::turns))]
 pub fn layers_of<'a, B: Allocator>(
     bench: &Bench<'a, B>,

@@ -1,6 +1,6 @@
 //! Draws a bench as a picture, in SVG, in which time goes down.
 //!
-//! It stands on `bench_core` (the machine), `diff_core` (online lists), `report_core` (what calls changed),
+//! The crate stands on `bench_core` (the machine), `diff_core` (online lists), `report_core` (what calls changed),
 //! `transcript_core` (calls as lines) and `svg_core` (elements), and names the plain types of the crates below.
 //!
 //! The modules in reading order: `plan`, where things stand; `standing`, whether a step remains, and `kind`, how a call

@@ -1,5 +1,5 @@
-//! At which rows of the picture a node begins and stops listing a topic and key. Between them the lane of the node is
-//! thick.
+//! At which rows of the picture a node begins and stops listing a topic and key. Between the two rows the lane of the
+//! node is thick.
 ghost use Rattle.std.specs.Prelude.{◌≡◌, ◌++◌, ◌&&◌, not, List, IfOk, OnOk, option_copied, string_bytes};
 ghost use Rattle.std.specs.List.{list_any};
 ghost use Rattle.diff_core.specs.Diffs.{alone};
@@ -32,8 +32,8 @@ impl<A: Allocator> Model for Asked<A> {
     ghost view = { λ a. record { node = a.node; topic = a.topic; key = a.key } };
 }
 
-/// A change of a node's lane: the row at which the node begins or stops listing what is asked about. It has nothing to
-/// do with the turns in which `order_core` finds an order.
+/// A change of a node's lane: the row at which the node begins or stops listing what is asked about. Such a turn has
+/// nothing to do with the turns in which `order_core` finds an order.
 #[derive(Clone, Copy, Debug, PartialEq, Eq)]
 pub struct Turn {
     pub row: u32,
@@ -42,7 +42,7 @@ pub struct Turn {
 }
 
 impl<A: Allocator> Asked<A> {
-    /// Whether the node is asked about.
+    /// Whether the node is asked about; each node is, if `self.node` is `None`.
     pub fn is_of(&self, node: u32) -> bool
         ensures { result ≡ is_of self.now.node node }
     {
@@ -173,8 +173,8 @@ pub fn note_turn<'a, B: Allocator, W: Allocator>(
     note_change(bench, turns, asked, row, node, change, alloc)
 }
 
-/// Appends a change of the lane to the path. If the node begins listing, the pen moves to the row of the change, and
-/// else it draws a line to that row.
+/// Appends a change of the lane to the path: a move to the row of the change, if the node begins listing there, and
+/// else a line down to that row.
 fn put_turn<A: Allocator>(path: &mut String<A>, nodes: u32, turn: Turn) -> Result<(), Oom>
     ensures { OnOk result (string_bytes path.new ≡ string_bytes path.old ++ turn_path nodes turn) }
 {
@@ -197,9 +197,9 @@ fn put_end<A: Allocator>(path: &mut String<A>, listing: bool, last: u32) -> Resu
     Ok(write!(path, "V{end}")?)
 }
 
-/// The thick parts of a node's lane, as a path. The pen goes to where the node begins listing what is asked about, and
-/// draws to where the node stops listing that or, if the node doesn't stop, to where row `last` begins. Parts outside
-/// the drawn rows are cut off by the `viewBox`.
+/// The thick parts of a node's lane, as a path: a line from each row where the node begins listing what is asked about
+/// to the row where the node stops or, if it doesn't stop, to where row `last` begins. The path may lead beyond the
+/// drawn rows; the `viewBox` of the picture cuts that off.
 pub fn bar_path<'a, B: Allocator>(
     turns: &[Turn],
     nodes: u32,

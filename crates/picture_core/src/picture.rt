@@ -63,7 +63,7 @@ fn put_ground<A: Allocator>(text: &mut String<A>) -> Result<(), Oom>
     )
 }
 
-/// Appends what comes before the names and the lanes: the style, and the white ground on which they stand.
+/// Appends the style and the white ground, which come before the names and the lanes.
 fn put_front<A: Allocator>(text: &mut String<A>) -> Result<(), Oom>
     ensures { OnOk result (string_bytes text.new ≡ string_bytes text.old ++ text_of front) }
 {
@@ -306,7 +306,7 @@ fn put_drawing<'a, A: Allocator, N: Allocator, B: Allocator>(
 
 /// The rows that are drawn. They begin with the row of step `from`, or of the first step after it; without `from`, with
 /// the first row. They end before the row of the first step after `to`; without `to`, after the last row. If there is
-/// no such step, the end of the history stands in place of its row.
+/// no such step, the end of the history stands in place of the step's row.
 #[tactic(auto, unfolding(crate::specs::Pictures::range_of))]
 pub fn range_of<'a, B: Allocator>(bench: &Bench<'a, B>, from: Option<u64>, to: Option<u64>) -> Range
     ensures { result ≡ range_of bench.now.state.history from to }
@@ -320,7 +320,7 @@ pub fn range_of<'a, B: Allocator>(bench: &Bench<'a, B>, from: Option<u64>, to: O
     }
 }
 
-/// The numbers of the future of a step; none if the step doesn't remain.
+/// The numbers of the future of a step, greatest first; none if the step doesn't remain.
 #[tactic(auto, using(crate::proofs::Futures::whole_future, crate::proofs::Futures::no_future), unfolding(report_core::specs::ActTexts::unwound))]
 fn future_of<'a, B: Allocator>(
     bench: &Bench<'a, B>,
@@ -339,8 +339,8 @@ fn future_of<'a, B: Allocator>(
     Ok(numbers)
 }
 
-/// The numbers of the steps that are painted: the future of step `why`; none if `why` is `None`, or step `why` doesn't
-/// remain.
+/// The numbers of the steps that are painted: the future of step `why`, greatest first; none if `why` is `None`, or
+/// step `why` doesn't remain.
 pub fn painted_of<'a, B: Allocator>(
     bench: &Bench<'a, B>,
     why: Option<u64>,

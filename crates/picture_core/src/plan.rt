@@ -47,7 +47,7 @@ pub fn across(nodes: u32, node: u32) -> u64
     64 + pitch(nodes) * u64::from(node)
 }
 
-/// How far down the middle of a row is.
+/// How far the middle of a row is below the beginning of row 0.
 pub fn down(row: u32) -> u64
     ensures { result ≡ down row }
 {

@@ -48,7 +48,7 @@ fn is_from(beyond: bool, number: u64, reply: Reply) -> bool
 }
 
 /// How many calls come before the first that took a step whose number is at least `number` or, if `beyond`, greater
-/// than `number`. If there is no such call, it is the number of all calls.
+/// than `number`. If there is no such call, all calls are counted.
 fn calls_before<'a, B: Allocator>(history: &History<'a, B>, beyond: bool, number: u64) -> usize
     ensures is { result ≡ calls_before beyond number history.now }
     ensures few { result ≤ length history.now }
@@ -62,8 +62,8 @@ fn calls_before<'a, B: Allocator>(history: &History<'a, B>, beyond: bool, number
     history.len()
 }
 
-/// The first row that is drawn: that of step `from`, or of the first step after it; the end of the history if there is
-/// no such step. Without `from` it is 0.
+/// The first row that is drawn: that of step `from`, or of the first step after it; the end of the history, if there is
+/// no such step; row 0, if `from` is `None`.
 pub fn first_row<'a, B: Allocator>(history: &History<'a, B>, from: Option<u64>) -> usize
     ensures is { result ≡ first_row history.now from }
     ensures few { result ≤ length history.now }
@@ -74,8 +74,8 @@ pub fn first_row<'a, B: Allocator>(history: &History<'a, B>, from: Option<u64>) 
     }
 }
 
-/// The row after the last one that is drawn: that of the first step after `to`. Without `to`, or if there is no such
-/// step, it is the end of the history.
+/// The row after the last one that is drawn: that of the first step after `to`; the end of the history, if there is no
+/// such step or `to` is `None`.
 pub fn last_row<'a, B: Allocator>(history: &History<'a, B>, to: Option<u64>) -> usize
     ensures is { result ≡ last_row history.now to }
     ensures few { result ≤ length history.now }

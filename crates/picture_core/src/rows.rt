@@ -145,8 +145,8 @@ pub fn node_changed(actor: u16, reply: Reply, undone: Option<u16>) -> Option<u16
     }
 }
 
-/// The node on whose lane the mark of a call stands: the one that the call changed, or, if it was refused, its actor.
-/// `None` if that actor isn't a node.
+/// The node on whose lane the mark of a call stands: `changed`, the node that the call changed, or the actor, if the
+/// call was refused. `None` if the call was refused and the actor isn't a node.
 pub fn lane_of(nodes: u32, actor: u16, reply: Reply, changed: Option<u16>) -> Option<u16>
     ensures { result ≡ lane_of nodes actor reply changed }
 {

@@ -1,4 +1,4 @@
-//! The shapes that a picture is put together from. Each is appended to the text.
+//! Appends the shapes of a picture to a text. `nodes` is the number of nodes; `node` and `row` count from 0.
 ghost use Rattle.std.specs.Prelude.{◌≡◌, ◌++◌, IfOk, OnOk, string_bytes};
 ghost use Rattle.svg_core.specs.Trees.{text_of};
 ghost use Rattle.svg_core.specs.Values.{plain_attributes};
@@ -228,7 +228,8 @@ fn message_class(kind: Kind) -> &'static str
     }
 }
 
-/// Appends a message from the step `source` to the step `number`. `from` and `to` are the row and the node of each.
+/// Appends a message from the step `source` to the step `number`. `from` is the row and the node of `source`, `to`
+/// those of `number`.
 #[tactic(auto, unfolding(crate::specs::Shapes::message))]
 pub fn put_message<'a, A: Allocator, B: Allocator>(
     text: &mut String<A>,
@@ -247,7 +248,7 @@ pub fn put_message<'a, A: Allocator, B: Allocator>(
     put_titled_path(text, message_class(kind), path.as_str(), title.as_str())
 }
 
-/// Appends a circle on a lane, as the mark of a call.
+/// Appends a circle on a lane, in the middle of a row, as the mark of a call.
 #[tactic(auto, unfolding(crate::specs::Shapes::dot_sign))]
 fn put_dot<A: Allocator>(
     text: &mut String<A>,

@@ -95,7 +95,8 @@ fn note_reply<'a, B: Allocator>(
     }
 }
 
-/// What a picture knows of each step, at the place of the step's number. No step has the number 0.
+/// What a picture knows of each step, at the place of the step's number; `Drawn::NOTHING` at a place without a step,
+/// such as 0.
 #[tactic(auto, unfolding(crate::specs::Standings::drawn_steps))]
 pub fn drawn_steps<'a, B: Allocator>(
     bench: &Bench<'a, B>,

@@ -24,14 +24,14 @@ pub struct Presence<'q> {
 pub struct View<'q> {
     /// The step whose future is painted. Nothing is painted if this is `None`, or the step doesn't remain.
     pub why: Option<u64>,
-    /// The picture begins with the row of this step, or of the first step after it; it has no rows if there is no such
-    /// step. If this is `None`, it begins with the first row.
+    /// The picture begins with the row of this step, or of the first step after it; if there is no such step, the
+    /// picture has no rows. If this is `None`, the picture begins with the first row.
     pub from: Option<u64>,
     /// The picture ends before the row of the first step after this one; if this is `None`, or there is no such step,
     /// with the last row.
     pub to: Option<u64>,
-    /// Lanes are thick where their nodes list a row of this topic and key: the lane of the node that is named, or each
-    /// lane if none is. If this is `None`, no lane is thick.
+    /// The lane of the node that this names, or each lane if this names none, is thick where its node lists a row of
+    /// this topic and key. If this is `None`, no lane is thick.
     pub of: Option<Presence<'q>>,
 }
 
@@ -52,8 +52,8 @@ fn named_node<'a, B: Allocator>(
     }
 }
 
-/// What is asked about, with its node by number. `NoSuchNode` if no node has the name, `NoWord` if topic or key isn't a
-/// word.
+/// What `presence` asks about, with the node as a number, and topic and key as words. `NoSuchNode` if no node has the
+/// name, `NoWord` if topic or key isn't a word.
 fn presence_asked<'a, B: Allocator>(
     bench: &Bench<'a, B>,
     presence: Presence<'_>,
@@ -68,7 +68,7 @@ fn presence_asked<'a, B: Allocator>(
     Ok(Asked { node, topic, key })
 }
 
-/// What is asked about, with its node by number; `None` if nothing is asked about.
+/// What `presence_asked` gives for the presence in `of`; `None` if `of` is `None`.
 fn asked<'a, B: Allocator>(
     bench: &Bench<'a, B>,
     of: Option<Presence<'_>>,

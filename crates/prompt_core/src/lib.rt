@@ -1,6 +1,6 @@
 //! A bench at a prompt: lines are answered one by one, as they are read.
 //!
-//! It stands on `run_core` (reads and carries out a line), `grammar_core` (the faults of a line, and its words),
+//! The crate stands on `run_core` (reads and carries out a line), `grammar_core` (the faults and the words of a line),
 //! `stream_core` (input line by line), `session_core` (a bench as a session), `explain_core` (who is online, and why),
 //! `whatif_report` (what would have made a difference), `picture_core` (pictures), `transcript_core` (a run as a
 //! script, and step by step), `report_core` (names and steps as they are printed), `progress_core` (a watcher that

@@ -7,7 +7,8 @@ use crate::prompt_fault::PromptFault;
 use std::io::Write;
 use stream_core::write_out;
 
-/// Writes an answer, and flushes the writer; `WriteFault` if either fails.
+/// Writes an answer, and flushes the writer; `WriteFault` if either fails. Then any beginning of the answer may have
+/// been written.
 pub fn put_out<W: Write>(writer: &mut W, answer: &[u8]) -> Result<(), PromptFault>
     ensures ok { OnOk result (Appends (W.contents writer.old) (W.contents writer.new) answer.now) }
     ensures err { OnErr result ((count : ℕ) × Appends (W.contents writer.old) (W.contents writer.new) (take count answer.now)) }

@@ -17,7 +17,7 @@ use session_core::save;
 use std::alloc::{Allocator, Global};
 use whatif_report::{WhatifFault, whatif_asked};
 
-/// Appends the help, if no word follows `:help`; else `WrongCount`. `words` are those behind `:help`.
+/// Appends the help and a line feed, if no word follows `:help`; else `WrongCount`. `words` are those after `:help`.
 fn put_help<A: Allocator + Copy>(
     alloc: A,
     answer: &mut Vec<u8, A>,
@@ -87,8 +87,8 @@ fn put_save<'a, B: Allocator>(
     put_fault(alloc, answer, number, FaultKind::WrongCount)
 }
 
-/// Appends the explanation that is asked for; `BadName` if no node has the name in the question, `TooLong` if its topic
-/// or key isn't a word.
+/// Appends the explanation for `question`; `BadName` if no node has the name that the question gives, `TooLong` if the
+/// topic or the key isn't a word.
 fn put_explanation<'a, B: Allocator>(
     bench: &Bench<'a, B>,
     alloc: &'a B,
@@ -129,8 +129,8 @@ fn put_explained<'a, B: Allocator>(
     put_explanation(bench, alloc, answer, number, question)
 }
 
-/// Appends what would have made a difference; `BadName` if no node has the name in the question, `TooLong` if its topic
-/// or key isn't a word.
+/// Appends which single changes would have made a difference to the rows of `question`; `BadName` if no node has the
+/// name that the question gives, `TooLong` if the topic or the key isn't a word.
 fn put_whatif<'a, B: Allocator>(
     bench: &Bench<'a, B>,
     alloc: &'a B,
@@ -173,7 +173,8 @@ fn put_changes<'a, B: Allocator>(
     put_whatif(bench, alloc, answer, number, question)
 }
 
-/// Appends the answer to a line that has these words, and that a script would refuse with the fault `kind`.
+/// Appends what a line with these words asks for, if the first word is one of the prompt's own; else the fault `kind`,
+/// with which a script would refuse the line.
 #[tactic(auto, unfolding(crate::specs::Answers::worded))]
 fn put_worded<'a, B: Allocator>(
     prompt: &Prompt<'a, B>,
@@ -208,8 +209,8 @@ fn put_worded<'a, B: Allocator>(
     put_run(prompt, alloc, answer, number, kind, first, rest)
 }
 
-/// Whether a line with this fault may be one of the prompt's own. A script refuses such a line with `NoNodes` before
-/// the nodes are named, and with `UnknownWord` after that.
+/// Whether a line with this fault may be one of the prompt's own. A script refuses the prompt's own lines with
+/// `NoNodes` before the nodes are named, and with `UnknownWord` after that.
 fn is_first(kind: FaultKind) -> bool
     ensures { result ≡ is_first kind }
 {

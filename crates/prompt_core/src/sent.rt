@@ -30,7 +30,7 @@ fn next_sent<'x, 'a, B: Allocator>(
     None
 }
 
-/// Appends a line `= TOPIC KEY NODE/PID META`, which has the row of an entry.
+/// Appends the row of an entry as a line `= TOPIC KEY NODE/PID META`.
 #[tactic(auto, unfolding(report_core::specs::Rows::row_text))]
 fn put_entry<A: Allocator, N: Allocator, W: Allocator>(
     text: &mut String<A>,
@@ -50,7 +50,7 @@ fn put_entry<A: Allocator, N: Allocator, W: Allocator>(
     Ok(writeln!(text, "{node}/{pid} {metadata}")?)
 }
 
-/// Appends the rows of the entries, each after `= `.
+/// Appends the rows of the entries by rising dot, each as a line after `= `.
 fn put_entries<'a, A: Allocator, B: Allocator, N: Allocator>(
     entries: &EntrySet<&'a B>,
     text: &mut String<A>,
@@ -95,7 +95,8 @@ fn put_message<'a, A: Allocator, B: Allocator, N: Allocator>(
     put_entries(message.entries(), text, names)
 }
 
-/// Appends all messages of the node `found`, whose number is `node`, each with the step that sent it.
+/// Appends all messages of the node `found`, whose number is `node`, each as `put_message` does with the step that sent
+/// the message.
 fn put_messages<'a, A: Allocator, B: Allocator, N: Allocator>(
     journal: &Journal<'a, B>,
     text: &mut String<A>,

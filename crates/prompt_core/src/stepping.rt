@@ -25,7 +25,7 @@ use stream_core::{Steps, next_line};
 const KEPT: usize = 4097;
 
 /// Answers each line before it reads the next, to the end of the input or a line that ends the prompt. The prompt must
-/// have taken no line yet. If `has_signs`, it shows a sign on `errors` before it reads a line, until `show_sign` fails
+/// have taken no line yet. If `has_signs`, shows a sign on `errors` before it reads each line, until `show_sign` fails
 /// once.
 fn answer_each<'a, B: Allocator, R: Read, W: Write, E: Write, L: Ledger>(
     prompt: &mut Prompt<'a, B>,
@@ -107,8 +107,8 @@ pub fn step_counted<B: Allocator, R: Read, W: Write, E: Write, L: Ledger>(
     ended
 }
 
-/// Like `step_counted`, but shows no signs, makes the count itself, from `blank`, and drops it. The help stands behind
-/// a second reference, since beside a `Blank` a reference must be to a type that is `Sized`.
+/// Like `step_counted`, but shows no signs, makes the count itself, from `blank`, and drops the count. `help` is a
+/// reference to a reference, since beside a `Blank` a reference must be to a type that is `Sized`.
 fn step_from<B: Allocator, R: Read, W: Write, L: Ledger>(
     heap: Global,
     alloc: &B,

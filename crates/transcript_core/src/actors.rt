@@ -85,8 +85,8 @@ fn console_words<A: Allocator>(alloc: A) -> Result<Vec<&'static str, A>, Oom>
     words_of(alloc, CONSOLES)
 }
 
-/// Names for `count` consoles: the first ones of `CONSOLES` that no node has. If these are fewer than `count`, it gives
-/// all of them.
+/// Names for `count` consoles: the first `count` names of `CONSOLES` that no node has, or all such names if there are
+/// fewer.
 #[tactic(auto, unfolding(crate::specs::Actors::named_consoles))]
 fn named_consoles<A: Allocator + Copy, N: Allocator>(
     nodes: &Names<N>,
@@ -103,9 +103,9 @@ fn named_consoles<A: Allocator + Copy, N: Allocator>(
     Ok(consoles)
 }
 
-/// Names for the consoles of a bench, which knows its consoles by number alone. Up to the console with the greatest
-/// number that asked something, each gets the next name of `c1` to `c48` that no node has. If too few names are free,
-/// the last consoles get none.
+/// Names for the consoles of a bench, which knows its consoles by number alone. Each console, up to the one with the
+/// greatest number that asked something, gets the next name of `c1` to `c48` that no node has. If too few names are
+/// free, the last consoles get none.
 #[tactic(auto, unfolding(crate::specs::Actors::free_consoles))]
 pub fn free_consoles<'a, B: Allocator>(
     bench: &Bench<'a, B>,

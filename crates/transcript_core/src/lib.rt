@@ -1,13 +1,14 @@
 //! Writes a run so that it can be read: its calls as a script that plays them, and its report with each call above what
-//! it printed.
+//! the call printed.
 //!
-//! It stands on `grammar_core` (scripts as they are read), `report_core` (what is printed of a bench), `run_core`
-//! (commands carried out on a bench) and `bench_core` (the machine), and names the plain types of the crates below.
+//! The crate stands on `grammar_core` (scripts as they are read), `report_core` (what is printed of a bench),
+//! `run_core` (commands carried out on a bench) and `bench_core` (the machine), and names the plain types of the crates
+//! below.
 //!
 //! The modules in reading order: `actors`, the names of those who act; `lines`, a call as a line; `script`, all calls
 //! as a script, and `read_back`, which reads the script again before it goes out; `fault`, why there is no script;
-//! `run_lines`, the lines of a run as a script. `steps` prints a report call by call; `refusals` tells which act or
-//! unwind was refused first; `sender` finds which step sent a message; `laws` says what is read back.
+//! `run_lines`, the lines of a script that plays a run's steps. `steps` writes a report call by call; `refusals` tells
+//! which act or unwind was refused first; `sender` finds which step sent a message; `laws` says what is read back.
 #![tactic(auto)]
 
 mod actors;

@@ -9,7 +9,8 @@ use payload_core::Oom;
 use report_core::{name_at, put_act};
 use std::alloc::Allocator;
 
-/// Appends `NODE VERB ..`, `ACTOR undo NUMBER` or `ACTOR back NAME`, without a line feed.
+/// Appends the call as `NODE VERB ..`, `ACTOR undo NUMBER` or `ACTOR back NAME`, without a line feed. The name of an
+/// actor that doesn't exist is empty.
 #[tactic(auto, unfolding(crate::specs::Scripts::call_line))]
 pub fn put_call<A: Allocator, N: Allocator, C: Allocator, W: Allocator>(
     text: &mut String<A>,

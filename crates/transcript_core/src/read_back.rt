@@ -53,7 +53,8 @@ fn asks<'a, B: Allocator>(bench: &Bench<'a, B>, script: &Script<&'a B>) -> bool
     ask_calls(bench.history(), lines(script))
 }
 
-/// Why there is no script, if the text of the calls has this fault when it is read.
+/// Why there is no script, if a reading of the calls' text ends with this fault: `OutOfMemory` if memory was refused,
+/// `NoScript` otherwise.
 fn fault_of(fault: ScriptFault) -> TranscriptFault
     ensures { result ≡ fault_of fault }
 {

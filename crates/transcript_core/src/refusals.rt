@@ -30,7 +30,8 @@ fn fault_in(reply: Reply) -> Option<Fault>
     }
 }
 
-/// Makes an act, and gives why it was refused; `None` if it wasn't. Only refused memory is an error.
+/// Carries out an act on the bench, and gives why the act was refused; `None` if it wasn't. Only refused memory is an
+/// error.
 fn ask<'a, B: Allocator>(
     bench: &mut Bench<'a, B>,
     actor: u16,
@@ -61,7 +62,7 @@ fn unwind_refusal<'a, B: Allocator>(bench: &Bench<'a, B>, number: u64) -> Result
     }
 }
 
-/// Unwinds a step, and gives why that was refused; `None` if it wasn't. What the unwind prints is dropped.
+/// Unwinds a step, and gives why the unwind was refused; `None` if it wasn't. Drops what the unwind prints.
 fn ask_unwind<'a, B: Allocator>(
     bench: &mut Bench<'a, B>,
     actor: u16,
@@ -77,8 +78,8 @@ fn ask_unwind<'a, B: Allocator>(
     Ok(refusal)
 }
 
-/// Carries out a command, and gives why it was refused, if it is an act or an unwind. `None` if it wasn't refused, or
-/// is another command. What the command prints is dropped.
+/// Carries out an act or an unwind, drops what that prints, and gives why it was refused; `None` if it wasn't. Other
+/// commands only print: for these it does nothing, and gives `None`.
 #[tactic(auto, unfolding(crate::specs::Refusals::refusal_of, run_core::specs::Report::after_command))]
 fn obey<'a, B: Allocator>(
     bench: &mut Bench<'a, B>,

@@ -8,7 +8,7 @@ ghost use Rattle.transcript_core.specs.Senders.{is_sent};
 use bench_core::{Journal, Kept, Step};
 use std::alloc::Allocator;
 
-/// Whether a step is a send of `node`.
+/// Whether `node` took the step, and the step sends a message.
 pub fn is_sent_by<A: Allocator>(kept: &Kept<A>, node: u16) -> bool
     ensures { result ≡ is_sent kept.now node }
 {

@@ -1,4 +1,4 @@
-//! Prints a report with the line of each call above what the call printed.
+//! Writes a report with each line of a script, or each recorded call, above what it printed.
 ghost use Rattle.std.specs.Prelude.{◌≡◌, ◌++◌, IfOk, OnOk, map, string_bytes, true};
 ghost use Rattle.bench_core.specs.Acts.{plain_act};
 ghost use Rattle.bench_core.specs.Machine.{opening_machine};
@@ -16,7 +16,7 @@ use report_core::{act, name_at};
 use run_core::command as obey;
 use std::alloc::Allocator;
 
-/// Notes `actor` in `takers`, at the place of a step's number, if `reply` says that `actor` took that step back.
+/// If `reply` says that a step was taken back, notes `actor` in `takers` at the place of that step's number.
 fn note_reply<A: Allocator>(takers: &mut Vec<Option<u16>, A>, actor: u16, reply: Reply)
     ensures { takers.new.items ≡ with_reply takers.old.items actor reply }
 {
@@ -249,7 +249,7 @@ fn unwinds_one<'a, B: Allocator>(bench: &Bench<'a, B>, command: &Command<&'a B>)
     }
 }
 
-/// Carries out a command on the bench, and appends its line and below that what it printed.
+/// Carries out a command on the bench, and appends the command's line and below that what the command printed.
 #[tactic(auto, unfolding(crate::specs::Steps::command_steps))]
 fn put_line<'a, B: Allocator>(
     out: &mut Vec<u8, &'a B>,
@@ -281,7 +281,7 @@ fn put_line<'a, B: Allocator>(
     put_below(out, &head, &printed)
 }
 
-/// Makes a recorded call on the bench, and appends its line and below that what it printed.
+/// Makes a recorded call on the bench, and appends the call's line and below that what the call printed.
 #[tactic(auto, unfolding(crate::specs::Steps::command_steps, crate::specs::Steps::command_head, run_core::specs::Report::command_text, run_core::specs::Report::after_command))]
 fn put_event<'a, B: Allocator>(
     out: &mut Vec<u8, &'a B>,
@@ -311,7 +311,7 @@ fn put_event<'a, B: Allocator>(
     put_below(out, &head, &printed)
 }
 
-/// Carries out the lines of a script on the bench, and appends each with what it printed below.
+/// Carries out the lines of a script on the bench, and appends each line and below that what the line printed.
 #[tactic(auto, unfolding(crate::specs::Steps::steps_text))]
 fn put_lines<'a, B: Allocator>(
     out: &mut Vec<u8, &'a B>,
@@ -330,7 +330,7 @@ fn put_lines<'a, B: Allocator>(
     Ok(())
 }
 
-/// Makes recorded calls on the bench, and appends the line of each with what it printed below.
+/// Makes the calls of `history` on the bench, and appends each call's line and below that what the call printed.
 #[tactic(auto, unfolding(crate::specs::Steps::steps_text))]
 fn put_events<'a, B: Allocator>(
     out: &mut Vec<u8, &'a B>,
@@ -351,7 +351,7 @@ fn put_events<'a, B: Allocator>(
     Ok(())
 }
 
-/// Carries out the lines of a script on a bench, and gives each with what it printed below.
+/// Carries out the lines of a script on the bench, and gives a text of these lines, each above what it printed.
 fn lines_steps<'a, B: Allocator>(
     bench: &mut Bench<'a, B>,
     consoles: &TextSet<&'a B>,
@@ -366,7 +366,7 @@ fn lines_steps<'a, B: Allocator>(
     Ok(out)
 }
 
-/// Makes recorded calls on a bench, and gives the line of each with what it printed below.
+/// Makes the calls of `history` on the bench, and gives a text of their lines, each above what its call printed.
 fn events_steps<'a, B: Allocator>(
     bench: &mut Bench<'a, B>,
     consoles: &TextSet<&'a B>,
@@ -392,8 +392,8 @@ fn opened<'a, B: Allocator>(
     Bench::new(alloc, names.try_copy()?, limits)
 }
 
-/// Makes recorded calls on a new bench with these names and limits, and gives the line of each with what it printed
-/// below.
+/// Makes the calls of `history` on a new bench with these names and limits, and gives a text of their lines, each above
+/// what its call printed.
 fn events_anew<'a, B: Allocator>(
     names: &Names<&'a B>,
     limits: Limits,
@@ -413,7 +413,7 @@ fn events_anew<'a, B: Allocator>(
 }
 
 /// The lines of a script, and below each what it printed. `bench` must be what a play of the script with these limits
-/// left; its history tells who took a step back later.
+/// left; the history of `bench` tells who took a step back later.
 pub fn script_steps<'a, B: Allocator>(
     script: &Script<&'a B>,
     alloc: &'a B,
@@ -437,7 +437,8 @@ pub fn script_steps<'a, B: Allocator>(
     steps
 }
 
-/// The lines of a bench's recorded calls, and below each what it printed. `consoles` has the names of the consoles.
+/// The lines of a bench's recorded calls, and below each what its call printed. `consoles` has the names of the
+/// consoles.
 #[tactic(auto, unfolding(crate::specs::Steps::bench_steps))]
 pub fn bench_steps<'a, B: Allocator>(
     bench: &Bench<'a, B>,
