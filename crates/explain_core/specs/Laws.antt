@@ -32,7 +32,7 @@ LeadsBack hops by (number ∷ numbers) = (by ≡ Some number) × ((h : Hop) × M
 abbrev pub IsChain : List Hop → Option ℕ → List ℕ → Type 0
 IsChain hops by numbers = LeadsBack hops by (reverse numbers)
 
--- the chain that leads to a step is one by `IsChain`
+-- in a bench that calls lead to, what `chain` finds for a step is a chain to it
 abbrev pub ChainLaw : Type 0
 ChainLaw = (m : Machine) (d : Dot) (by : Option ℕ) → IsReached (config_of m) m.state → IsChain (track_of m d).hops by (chain (track_of m d).hops by)
 

@@ -21,7 +21,8 @@ fn node_at<A: Allocator>(nodes: &Names<A>, name: &str) -> Result<u16, FaultKind>
     ensures gives { Meets (λ node. node) result (node_at nodes.now name.now) }
     ensures small { IfOk result (λ node. node < 32) }
 {
-    let _few = nodes.len(); // the proof reads that there are at most 32 nodes
+    // form: the proof reads that there are at most 32 nodes
+    let _few = nodes.len();
     nodes.number_of(name).ok_or(FaultKind::BadName)
 }
 

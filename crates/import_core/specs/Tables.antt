@@ -84,7 +84,7 @@ pub record OneValueLaw : Type 0 where
       IsWordOf longs e word → d ≡ e
   pub pids : (pids : Texts) (d e : Data) (pid : ℕ) → depth d ≤ max_depth → depth e ≤ max_depth → IsNumberOf pids d pid → IsNumberOf pids e pid → d ≡ e
 
--- what stands for a value without a float stays the same, and stands for it alone, while more values are numbered
+-- what stands for a value stays the same while more values are numbered; a process without a float in its value has one number
 pub record KeptLaw : Type 0 where
   pub words : (longs later : Texts) (d : Data) (word : List ℕ) → Extends longs later → IsWordOf longs d word → IsWordOf later d word
   pub pids : (pids later : Texts) (d : Data) (pid : ℕ) → Extends pids later → IsNumberOf pids d pid → IsNumberOf later d pid

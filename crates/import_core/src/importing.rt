@@ -29,8 +29,16 @@ pub struct Import<A: Allocator> {
     pub left_out: Vec<u64, A>,
 }
 
+/// The line numbers of the deliveries and answers that were left out, taken out of the import.
+pub fn left_out_of<A: Allocator>(import: Import<A>) -> Vec<u64, A>
+    ensures { result.items ≡ import.left_out.items }
+{
+    // form: takes the import apart in a function of its own
+    import.left_out
+}
+
 /// What stands between the line feeds of the input, in order. Behind a line feed at the end comes an empty line.
-fn lines_of<A: Allocator>(alloc: A, bytes: &[u8]) -> Result<Vec<&[u8], A>, Oom>
+pub fn lines_of<A: Allocator>(alloc: A, bytes: &[u8]) -> Result<Vec<&[u8], A>, Oom>
     ensures { IfOk result (λ lines. map (λ line. line.now) lines.items ≡ lines_of bytes.now) }
 {
     bytes.split(|byte| *byte == b'\n').collect(alloc)

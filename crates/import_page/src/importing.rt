@@ -12,18 +12,11 @@ ghost use Rattle.import_page.specs.Keys.{IsShownOf, keys_text, start_of};
 
 use crate::entries::put_entries;
 use bench_core::{Bench, Limits};
-use import_core::{Import, ImportFault, Tables, imported};
+use import_core::{Import, ImportFault, Tables, imported, left_out_of, lines_of};
 use import_report::{shown_names, zeros};
 use page_data::put_texts;
 use payload_core::Oom;
 use std::alloc::{Allocator, Global};
-
-/// What stands between the line feeds of the input, in order. Behind a line feed at the end comes an empty line.
-fn lines_of<A: Allocator>(alloc: A, bytes: &[u8]) -> Result<Vec<&[u8], A>, Oom>
-    ensures { IfOk result (λ lines. map (λ line. line.now) lines.items ≡ lines_of bytes.now) }
-{
-    bytes.split(|byte| *byte == b'\n').collect(alloc)
-}
 
 /// A bench, and what the events that were played on it tell besides its calls.
 #[derive(Drop)]
@@ -124,14 +117,6 @@ fn shown_of<'a, B: Allocator>(
             Err(oom)
         }
     }
-}
-
-/// The line numbers of the deliveries and answers that were left out, taken out of the import.
-fn left_out_of<A: Allocator>(import: Import<A>) -> Vec<u64, A>
-    ensures { result.items ≡ import.left_out.items }
-{
-    // form: takes the import apart in a function of its own
-    import.left_out
 }
 
 /// The bench on which the events of these logs were played, with these limits; what the logs tell besides its calls;

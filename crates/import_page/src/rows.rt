@@ -7,10 +7,10 @@ ghost use Rattle.import_page.specs.Entries.{IsListTold, list_text, row_head, row
 use bench_core::Bench;
 use diff_core::OnlineRow;
 use import_core::Noted;
-use import_report::rows_at;
 use listed_core::compared;
 use page_data::{put_comma, put_number_key, put_word};
 use payload_core::Oom;
+use report_core::rows_at;
 use std::alloc::Allocator;
 
 /// Appends `[NAME,"PID"`, where NAME is the number of the row's node.

@@ -2,20 +2,13 @@
 ghost use Rattle.std.specs.Prelude.{◌≡◌, IfOk, option_map, string_bytes};
 ghost use Rattle.serde_json.specs.Find.{as_number, as_str};
 ghost use Rattle.serde_json.specs.View.{view};
-ghost use Rattle.import_core.specs.Tables.{IsTextOf};
 ghost use Rattle.import_page.specs.Times.{IsTimeBy, IsTimeOf, IsTimeOn};
 
+use import_core::text_of;
 use log_core::{LineFault, value_of_line};
 use payload_core::Oom;
 use serde_json::Value;
 use std::alloc::Global;
-
-/// The JSON text of a value.
-fn text_of(heap: Global, value: &Value) -> Result<String, Oom>
-    ensures { IfOk result (λ s. IsTextOf (view value.now) (string_bytes s)) }
-{
-    value.to_string(heap)
-}
 
 /// A time as a text: a string itself, or the JSON text of a number; `None` for other values.
 fn told(heap: Global, value: &Value) -> Result<Option<String>, Oom>

@@ -14,11 +14,11 @@ ghost use Rattle.import_report.specs.Scripts.{in_order};
 use crate::events::play;
 use crate::numbers::asked;
 use bench_core::{Act, Bench, Names, Reply, Step};
-use diff_core::{OnlineRow, online_list};
+use diff_core::OnlineRow;
 use import_core::Noted;
 use listed_core::compared;
 use payload_core::Oom;
-use report_core::{name_at, node, put_lines};
+use report_core::{name_at, put_lines, rows_at};
 use std::alloc::Allocator;
 
 /// Appends `line L NODE`, where L is the number of the event's line in the logs, without a line feed.
@@ -53,21 +53,6 @@ fn put_list<A: Allocator, N: Allocator, W: Allocator>(
     put_place(text, names, note)?;
     text.push_str("\n")?;
     put_lines(text, names, ours, theirs)
-}
-
-/// The online list of a node of the bench; empty if there is no such node.
-#[tactic(auto, unfolding(report_core::specs::Shown::rows_at))]
-pub fn rows_at<'a, B: Allocator>(
-    bench: &Bench<'a, B>,
-    number: u16,
-    alloc: &'a B,
-) -> Result<Vec<OnlineRow<&'a B>, &'a B>, Oom>
-    ensures { IfOk result (λ rows. rows.items ≡ rows_at bench.now number) }
-{
-    match node(bench, number) {
-        Some(node) => online_list(alloc, node.replica()),
-        None => Ok(Vec::new(alloc)),
-    }
 }
 
 /// Compares the list that a real node listed (in `note`) with the bench's list of that node, whatever the clocks.

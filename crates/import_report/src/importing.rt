@@ -14,7 +14,7 @@ use crate::names::shown_names;
 use crate::script::{Scripted, script_of, zeros};
 use bench_core::{Bench, Limits};
 use grammar_core::LONGEST_SCRIPT;
-use import_core::{FaultKind, Import, ImportFault, imported};
+use import_core::{FaultKind, Import, ImportFault, imported, left_out_of};
 use payload_core::Oom;
 use std::alloc::{Allocator, Global};
 
@@ -48,14 +48,6 @@ fn script_of_import<'a, B: Allocator>(
         &import.notes,
         &import.order,
     )
-}
-
-/// The line numbers of the deliveries and answers that were left out, taken out of the import.
-fn left_out_of<A: Allocator>(import: Import<A>) -> Vec<u64, A>
-    ensures { result.items ≡ import.left_out.items }
-{
-    // form: takes the import apart in a function of its own
-    import.left_out
 }
 
 /// The script of these logs, with the bench on which its lines were played as they were made; and the line numbers of

@@ -19,7 +19,6 @@ mod names;
 mod numbers;
 mod script;
 
-pub use checks::rows_at;
 pub use events::play;
 pub use importing::{Checked, import_bench, import_check, import_script};
 pub use names::shown_names;

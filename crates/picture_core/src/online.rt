@@ -10,9 +10,9 @@ ghost use Rattle.picture_core.specs.Pictures.{is_of};
 
 use crate::plan::{across, down};
 use bench_core::Bench;
-use diff_core::{Diff, OnlineRow, online_list};
+use diff_core::{Diff, OnlineRow};
 use payload_core::{Oom, Word};
-use report_core::node;
+use report_core::rows_at;
 use std::alloc::Allocator;
 use std::marker::Model;
 
@@ -84,21 +84,6 @@ fn lists_beside<A: Allocator, R: Allocator>(
 {
     rows.iter()
         .any(|row| is_asked(asked, row) && !is_among(joined, row))
-}
-
-/// The online list of the node with this number; empty if there is no such node.
-#[tactic(auto, unfolding(report_core::specs::Shown::rows_at))]
-fn rows_at<'a, B: Allocator>(
-    bench: &Bench<'a, B>,
-    number: u16,
-    alloc: &'a B,
-) -> Result<Vec<OnlineRow<&'a B>, &'a B>, Oom>
-    ensures { IfOk result (λ rows. rows.items ≡ rows_at bench.now number) }
-{
-    match node(bench, number) {
-        Some(node) => online_list(alloc, node.replica()),
-        None => Ok(Vec::new(alloc)),
-    }
 }
 
 /// Appends a change of the node's lane if the node began or stopped listing what is asked about, that is, if `was` and

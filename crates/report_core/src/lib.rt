@@ -30,7 +30,7 @@ pub use acting::{Acted, act, answer, ask, put_acted};
 pub use dots_text::{clock_of, cloud_of, put_dots};
 pub use moved::node_of_step;
 pub use rows::{name_at, put_lines, put_rows};
-pub use shown::{node, show};
+pub use shown::{node, rows_at, show};
 pub use step_diffs::{asked_undo, step_diff, undo_diff};
 pub use step_text::{put_act, put_journal};
 pub use unwinding::{is_out_of_memory, unwind, why};
