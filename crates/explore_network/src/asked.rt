@@ -206,8 +206,8 @@ fn dots_of_nodes<'a, B: Allocator>(
     dots
 }
 
-/// The dots that a question is about: those of all entries with its topic and key that the steps make, or else all own
-/// dots that the nodes have seen at the end. `count` is the number of nodes.
+/// The dots that a question is about: if it asks for a topic and a key, those of all entries with these that the steps
+/// make; if not, all own dots that the nodes have seen at the end. `count` is the number of nodes.
 pub(crate) fn dots_of<'a, B: Allocator>(
     steps: &[Kept<&'a B>],
     count: u16,
