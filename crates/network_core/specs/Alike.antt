@@ -92,8 +92,8 @@ pub record Narrows (c : Cluster) (k : Kept) (t u : Cares) : Type 0 where
   pub sent : (x : Node) (names : Names) → slice_get c k.node ≡ Some x → sends_of c k.step ≡ Some names → (d : Dot) →
       u.of k.node (suc (length x.outbox)) d ≡ true → set.contains names d.name ≡ true → kept (t.at k.node) x.replica.own d ≡ true
 
--- what matters after each of these steps comes from what matters before that step, whatever clusters the steps lead
--- through
+-- from cluster c on, what matters after each of these steps comes from what matters before that step: t at first, and
+-- `end` at last
 pub data Follows : Cluster → Cares → List Kept → Cares → Type 0 where
   Ends : (c : Cluster) (t : Cares) → Follows c t [] t
   Goes : (c : Cluster) (t : Cares) (k : Kept) (ks : List Kept) (u end : Cares) → Narrows c k t u →

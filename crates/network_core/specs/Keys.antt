@@ -16,7 +16,7 @@ use Rattle.network_core.specs.Made.{own_after}
 use Rattle.network_core.specs.NetworkRuns.{ordered}
 
 -- what a step sends: a message that its node's steps other than deliveries decide (`Some (Some message)`), or one with
--- what the node has seen, deliveries among it (`Some None`), or nothing (`None`)
+-- what the node has seen, by deliveries too (`Some None`), or nothing (`None`)
 abbrev pub sent_own : Operation → Replica → Option (Option Message)
 sent_own Broadcast r = Some (Some (delta_message r))
 sent_own Request r = Some (Some (request_of r))

@@ -48,5 +48,5 @@ pub record IsNetworkRun (j : List Kept) (lost again : ℕ) (r : List Kept) : Typ
   pub few_repeated : length repeated ≤ again
   -- `repeated`, which come a second time, and `once`, which don't, are together the recorded deliveries
   pub of_these : HaveSame (repeated ++ once) (deliveries j)
-  -- the run's deliveries and the missing ones are together the recorded ones and the second ones
+  -- the run's deliveries and the missing ones are together the recorded ones and the repeated ones
   pub delivered : HaveSame (deliveries r ++ missing) (deliveries j ++ repeated)

@@ -44,8 +44,8 @@ pub fn alike_law()
 {}
 
 /// Each entry in a run of the network was made by a join or an update of the node that its dot names. The dot follows
-/// from that node's own steps, which are those of the recorded run. So the recorded run tells which entries there can
-/// be.
+/// from that node's steps other than deliveries, which are those of the recorded run. So the recorded run tells which
+/// entries there can be.
 pub fn made_law()
     ensures made { MadeLaw }
     ensures wanted { WantedLaw }
@@ -99,9 +99,9 @@ pub fn settle_law()
     ensures length { LengthLaw }
 {}
 
-/// A delivery that comes next in a run was recorded. Before it the run has fewer such deliveries than twice the
-/// recorded ones, and fewer than the recorded ones if none may come a second time. If the run has all recorded
-/// deliveries at a node, and none may come a second time, nothing more is delivered there.
+/// Let a delivery of some message at a node come next in a run. Then one was recorded, and fewer than twice the
+/// recorded ones have come before; fewer than the recorded ones, if none may come a second time. Where all recorded
+/// deliveries at a node have come, and none may come a second time, nothing more is delivered.
 pub fn next_law()
     ensures quiet { QuietLaw }
     ensures next { NextDeliveryLaw }
