@@ -332,8 +332,8 @@ fn tell_once<'a, B: Allocator, W: Watch<Walked>>(
 }
 
 /// Adds the outcomes of all runs that go on from where the walk stands, and leaves the cluster and the path unchanged;
-/// after a `Stop` they are those at which the walk ended. `counts` has how many steps of each turn came, and at most
-/// `left` steps can follow. Tells `watch` how far the walk has come.
+/// after a `Stop` cluster and path are those at which the walk ended. `counts` has how many steps of each turn came,
+/// and at most `left` steps can follow. Tells `watch` how far the walk has come.
 #[cycle(visit)]
 pub(crate) fn visit<'a, B: Allocator, W: Watch<Walked>>(
     tour: &Tour<'a, '_, B>,
