@@ -60,7 +60,7 @@ cone_of t = record {
   of = λ n i d. is_wanted t.dots d && set.contains (carried t n i) d.name;
 }
 
--- the same as a walk of `network_core`, with the clusters whose outcomes were found
+-- the plan as the laws of `network_core` see it, with the clusters whose outcomes were found
 abbrev pub walk_of : Plan → (Cluster → Bool) → Walk
 walk_of p told = record {
   limits = p.limits;

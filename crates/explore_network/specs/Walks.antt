@@ -154,7 +154,7 @@ abbrev pub GoesThroughAt : Plan → Question → List ℕ → Cluster → List �
 GoesThroughAt p q path c counts os place =
     (k : Kept) (d : Cluster) → next_in p counts place ≡ true → slice_get p.steps place ≡ Some k → step c k.node k.step ≡ Ok d → IsTold p q os (steps_at p.steps path ++ k ∷ [])
 
--- of each place: if its step may come next and is accepted, all outcomes of runs that begin with the path and the step
--- were found
+-- if the step at a place may come next and is accepted, all outcomes of runs that begin with the path and this step
+-- were found: so for each place
 abbrev pub AllGoThrough : Plan → Question → List ℕ → Cluster → List ℕ → List Outcome → Type 0
 AllGoThrough p q path c counts os = (place : ℕ) → GoesThroughAt p q path c counts os place

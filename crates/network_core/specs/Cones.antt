@@ -41,7 +41,7 @@ says _ name = false
 
 -- the cone is closed: what matters in one place matters in each place from which a run of the network can bring it
 pub record IsCone (j : List Kept) (t : Cone) : Type 0 where
-  -- what matters to a node after one of its steps mattered to the node before that step
+  -- what matters to a node after a step other than a delivery mattered to it before that step
   pub before : (n p : ℕ) (d : Dot) → t.at n (suc p) d ≡ true → t.at n p d ≡ true
   -- what matters to a node before its first step matters in each message of which j has a delivery at the node
   pub read : AllByRecursion (λ (k : Kept). (sender number : ℕ) → k.step ≡ Deliver sender number → (d : Dot) → t.at k.node 0 d ≡ true → t.of sender number d ≡ true) j

@@ -24,6 +24,7 @@ is_own Request = true
 is_own (Down name) = true
 is_own _ = false
 
+-- the kept step with this number, of this node
 abbrev pub step_of : ℕ → ℕ → Operation → Kept
 step_of number node s = record { number = number; node = node; step = s }
 

@@ -68,8 +68,7 @@ pub record SettleLaw : Type 0 where
       IsSettled g (w ++ delivery i node sender number ∷ []) → IsSettled g w
   -- another beginning v is settled, after which the same is left to do and the dots that matter stand alike
   pub same : (g : Walk) (w v : List Kept) (c d : Cluster) → IsWalk g → Ran g w c → Ran g v d → LeaveSame w v → StandAlike (cares g.cone w) g.limits w c d → IsSettled g v → IsSettled g w
-  -- w ends with a delivery, and is settled with another number at that step: the numbers of deliveries make no
-  -- difference
+  -- a beginning that ends with a delivery is settled with one number at that step if it is with another
   pub renumbered : (g : Walk) (w : List Kept) (i j node sender number : ℕ) (c d : Cluster) → IsWalk g → Ran g w c → step c node (Deliver sender number) ≡ Ok d →
       IsSettled g (w ++ delivery i node sender number ∷ []) → IsSettled g (w ++ delivery j node sender number ∷ [])
   -- w with each accepted step that can come next is settled; and the cluster counts as found, if a run may end here
