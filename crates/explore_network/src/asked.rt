@@ -157,7 +157,7 @@ fn put_own_of<'a, B: Allocator>(
     }
 }
 
-/// Appends the own dots that the first `count` nodes have seen.
+/// Appends the own dots that the first `count` nodes have seen: node by node, each node's by rising clock.
 fn put_own_of_all<'a, B: Allocator>(
     dots: &mut Vec<Dot, &'a B>,
     cluster: &Cluster<'a, B>,
