@@ -22,7 +22,7 @@ use std::marker::Model;
 /// do.
 const FAR: usize = 64;
 
-/// The places of a run's steps, and the rows at its end.
+/// A run whose end is known: the places of the run's steps among the recorded ones, and the rows asked for at the end.
 #[derive(Drop)]
 struct Known<A: Allocator> {
     places: Vec<usize, A>,

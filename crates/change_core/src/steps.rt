@@ -1,4 +1,4 @@
-//! Copies of steps.
+//! Copies of a run's steps: of all that remain, or of those at given places.
 ghost use Rattle.std.specs.Prelude.{◌≡◌, ◌++◌, [], IfOk, OnOk, slice_get};
 ghost use Rattle.journal_core.specs.Holdings.{kepts};
 ghost use Rattle.change_core.specs.Marked.{steps_at, with_step};
