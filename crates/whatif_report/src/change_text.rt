@@ -41,7 +41,7 @@ fn put_step<'a, A: Allocator, N: Allocator, B: Allocator>(
     }
 }
 
-/// The word for a kind, and a space.
+/// The word for a kind, and a space; the same word for `Before` and `Behind`.
 fn kind_word(kind: Kind) -> &'static str
     ensures { result.now ≡ kind_word kind }
 {
