@@ -16,7 +16,7 @@ type Marks<A> = Vec<Mark, A>;
 
 pub(crate) type Places<A> = Vec<usize, A>;
 
-/// The mark of the step `kept`, which stands at `place`.
+/// What an order needs to know of the step `kept`, which stands at `place`.
 fn mark_of<W: Allocator>(kept: &Kept<W>, place: usize) -> Mark
     ensures { result ≡ mark_of place kept.now }
 {
@@ -109,7 +109,7 @@ pub(crate) fn changed_marks<W: Allocator, A: Allocator>(
     Ok(marks)
 }
 
-/// The places of the marks, in their order.
+/// The places of the marks, in the order of the marks.
 fn places_of<A: Allocator>(marks: &[Mark], alloc: A) -> Result<Places<A>, Oom>
     ensures { IfOk result (λ places. places.items ≡ map (λ m. m.place) marks.now) }
 {

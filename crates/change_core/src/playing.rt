@@ -22,7 +22,7 @@ use std::marker::Model;
 /// do.
 const FAR: usize = 64;
 
-/// The places of a run's steps, and the rows at its end.
+/// A run whose end is known: the places of the run's steps among the recorded ones, and the rows asked for at the end.
 #[derive(Drop)]
 struct Known<A: Allocator> {
     places: Vec<usize, A>,
@@ -144,7 +144,7 @@ fn meet_known<'a, B: Allocator>(
     meet(here, there, steps, run, known.places.as_slice(), far)
 }
 
-/// The recorded run, with `before`, the rows at its end.
+/// The recorded run, with copies of the rows `before` as those at its end.
 fn recorded_run<W: Allocator, A: Allocator + Copy>(
     steps: &[Kept<W>],
     before: &[OnlineRow<A>],
@@ -159,7 +159,8 @@ fn recorded_run<W: Allocator, A: Allocator + Copy>(
 }
 
 impl<'a, B: Allocator> Search<'a, B> {
-    /// A search on a bench that has these steps and shows the rows `before`.
+    /// A search on a bench whose remaining steps are `steps`. `before` has the rows with the topic and key at the node
+    /// as they are on the bench.
     pub fn new(
         bench: &Bench<'a, B>,
         steps: &[Kept<&'a B>],

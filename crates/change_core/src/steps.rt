@@ -1,4 +1,4 @@
-//! Copies of steps.
+//! Copies of a run's steps: of all that remain, or of those at given places.
 ghost use Rattle.std.specs.Prelude.{◌≡◌, ◌++◌, [], IfOk, OnOk, slice_get};
 ghost use Rattle.journal_core.specs.Holdings.{kepts};
 ghost use Rattle.change_core.specs.Marked.{steps_at, with_step};
@@ -48,7 +48,7 @@ fn put_copy<A: Allocator + Copy>(
     }
 }
 
-/// Copies of the steps at the places of these marks, in the order of the marks.
+/// Copies of the steps at the places of these marks, in the order of the marks. A place without a step is passed over.
 pub(crate) fn copied_at<A: Allocator + Copy>(
     steps: &[Kept<A>],
     marks: &[Mark],

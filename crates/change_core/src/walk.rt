@@ -87,8 +87,9 @@ impl<'a, B: Allocator> Walk<'a, B> {
         self.taken.len()
     }
 
-    /// Takes the step at `place`, and says whether it was accepted. True, with nothing changed, if there is no such
-    /// step. If a request for memory is refused, the step may have been taken, and its inverse is dropped.
+    /// Takes the step at `place`, and says whether the step was accepted; if not, nothing changed. True, with nothing
+    /// changed, if there is no such step. If a request for memory is refused, the step may have been taken, and its
+    /// inverse is dropped.
     pub(crate) fn ask_at(&mut self, steps: &[Kept<&'a B>], place: usize) -> Result<bool, Oom>
         ensures { IfOk result (Asks steps.now place self.old self.new) }
     {

@@ -1,4 +1,4 @@
--- The dots that a question is about, and where they matter at the end.
+-- The dots that a question is about.
 use Rattle.std.specs.Prelude.{◌≡◌, ℕ, ◌<◌, if◌then◌else◌, List, [], ◌∷◌, ◌++◌, zero, suc, slice_get, Option, Some, None, Ok}
 use Rattle.std.specs.List.{AllByRecursion}
 use Rattle.dots_core.specs.declared.dot.Dot.{Dot}
@@ -14,15 +14,16 @@ use Rattle.explore_network.specs.Plans.{Wants}
 use Rattle.explore_network.specs.Questions.{Question}
 use Rattle.network_rules.specs.Tables.{is_wanted}
 
+-- the dot that a node's next entry gets; none if there is no node
 abbrev pub fresh_of : Option Node → List Dot
 fresh_of None = []
 fresh_of (Some x) = fresh x.replica ∷ []
 
--- the dot of the entry that a step makes, if it is of this topic and key
+-- the dot of the entry that a step of this node makes, if the entry is of this topic and key; none if there is no node
 abbrev pub asked_dots : List ℕ → List ℕ → Kept → Option Node → List Dot
 asked_dots topic key k node = if is_asked topic key k.step then fresh_of node else []
 
--- the dots of a name, up to a clock
+-- the dots of a name with the clocks from 1 to this one
 abbrev pub dots_up_to : ℕ → ℕ → List Dot
 dots_up_to name zero = []
 dots_up_to name (suc n) = dots_up_to name n ++ dot name (suc n) ∷ []
@@ -37,7 +38,7 @@ unfoldable pub own_of_all : Cluster → ℕ → List Dot
 own_of_all c zero = []
 own_of_all c (suc n) = own_of_all c n ++ own_of (slice_get c n)
 
--- the dots are all that the question is about, if the steps can be taken
+-- if the steps are accepted, these are all dots that the question is about
 pub record AreAsked (l : NodeLimits) (count : ℕ) (steps : List Kept) (q : Question) (dots : List Dot) : Type 0 where
   pub names : AllByRecursion (λ (d : Dot). d.name < 32) dots
   pub wants : (end : Cluster) → runs l count steps ≡ Ok end → Wants l steps count (is_wanted dots) q

@@ -1,4 +1,4 @@
--- What a plan finds, for the code's own use alone.
+-- What a walk finds by a plan; only this crate's own code uses it.
 use Rattle.std.specs.Prelude.{◌≡◌, List, [], ◌∷◌, Ok}
 use Rattle.std.specs.List.{AllByRecursion}
 use Rattle.bench_core.specs.Clusters.{Cluster}

@@ -1,4 +1,4 @@
--- What all runs of the network have in common.
+-- `Plan`: what all runs of the network have in common, as a walk over them uses it.
 use Rattle.std.specs.Prelude.{◌≡◌, ℕ, ◌≤◌, ◌<◌, ◌==◌, ◌&&◌, not, Bool, true, List, Option, refl}
 use Rattle.std.specs.Coded.{Coded, code_by, coded×, coded_ℕ, coded_list, coded_option}
 use Rattle.replica_core.specs.declared.node_limits.NodeLimits.{NodeLimits}
@@ -52,14 +52,15 @@ plan_code =
     (λ p. (p.limits, (p.count, (p.steps, (p.lost, (p.again, (p.most, (p.turns, (p.ranks, p.tables)))))))))
     (λ t. record { limits = t.0; count = t.1.0; steps = t.1.1.0; lost = t.1.1.1.0; again = t.1.1.1.1.0; most = t.1.1.1.1.1.0; turns = t.1.1.1.1.1.1.0; ranks = t.1.1.1.1.1.1.1.0; tables = t.1.1.1.1.1.1.1.1 }) (λ _. refl)
 
--- what matters where: other names' dots at a node, and dots in messages
+-- which dots matter where, of those that are asked for: at a node those of the names that matter there, but for the
+-- node's own; and in a message those of the names that matter in it
 abbrev pub cone_of : Tables → Cone
 cone_of t = record {
   at = λ n p d. is_wanted t.dots d && (set.contains (matter t n p) d.name && not (d.name == n));
   of = λ n i d. is_wanted t.dots d && set.contains (carried t n i) d.name;
 }
 
--- what the walk goes by: all that the runs have in common, and the clusters whose outcomes were found
+-- the plan as the laws of `network_core` see it, with the clusters whose outcomes were found
 abbrev pub walk_of : Plan → (Cluster → Bool) → Walk
 walk_of p told = record {
   limits = p.limits;
@@ -71,13 +72,15 @@ walk_of p told = record {
   told = told;
 }
 
--- the dots that matter: all dots of other nodes that the nodes can see, or those of the topic and the key alone
+-- `wanted` holds of all dots that the question is about: all that nodes can see, or those of entries of the topic and
+-- the key
 abbrev pub Wants : NodeLimits → List Kept → ℕ → (Dot → Bool) → Question → Type 0
 Wants l j count wanted OfCluster = WantsSeen l j count wanted
 Wants l j count wanted (OfNode node) = WantsSeen l j count wanted
 Wants l j count wanted (OfPresence node topic key) = WantsMade l j wanted topic key
 
--- the plan is made of its steps, which fill no node; and it leaves out nothing that matters for the question
+-- the turns and ranks are those of the plan's steps, which make no more entries than a node may hold; and the tables
+-- leave out nothing that matters for the question
 pub record IsPlan (p : Plan) (q : Question) : Type 0 where
   pub few : p.count ≤ 32
   pub limits : AreNodeLimits p.limits

@@ -1,4 +1,4 @@
--- What is asked, and what a cluster shows to it.
+-- What a question asks, and what a cluster shows to it.
 use Rattle.std.specs.Prelude.{◌<◌, ℕ, List, [], ◌∷◌, map, slice_get, Option, Some, None}
 use Rattle.replica_core.specs.Replicas.{Replica}
 use Rattle.node_core.specs.Nodes.{Node}
@@ -8,7 +8,7 @@ use Rattle.network_core.specs.Rows.{online_rows_of}
 use Rattle.explore_network.specs.declared.question.Question.{Question as Asked}
 use Rattle.explore_network.specs.declared.question.Question.TheVariants as questions
 
--- all of the cluster, a node, or the presences of a topic and a key, as a node shows them
+-- what is asked about: the whole cluster, a node's replica, or the rows of a topic and a key in a node's online list
 pub data Question : Type 0 where
   OfCluster : Question
   OfNode : (node : ℕ) → Question
@@ -19,33 +19,35 @@ plain questions.Cluster = OfCluster
 plain (questions.Node node) = OfNode node
 plain (questions.Presence node topic key) = OfPresence node topic key
 
--- the node that is asked about, if one is, is one of `count`
+-- if the question is about a node, that is one of the first `count`
 abbrev pub IsThere : ℕ → Question → Type 0
 IsThere count OfCluster = Unit {0}
 IsThere count (OfNode node) = node < count
 IsThere count (OfPresence node topic key) = node < count
 
--- the node that is asked about, or none for all
+-- the node that the question is about; `None` for the whole cluster
 abbrev pub node_of : Question → Option ℕ
 node_of OfCluster = None
 node_of (OfNode node) = Some node
 node_of (OfPresence node topic key) = Some node
 
+-- the rows of the topic and the key in the node's online list; none if there is no such node
 abbrev pub rows_in : List ℕ → List ℕ → Option Node → List Row
 rows_in topic key None = []
 rows_in topic key (Some x) = online_rows_of topic key x.replica
 
+-- the node's replica, as a list; empty if there is no such node
 abbrev pub replicas_in : Option Node → List Replica
 replicas_in None = []
 replicas_in (Some x) = x.replica ∷ []
 
--- what decides whether two clusters differ
+-- what a cluster shows to a question: two clusters differ if they show different things
 pub data Shown : Type 0 where
   Rows : List Row → Shown
   Replicas : List Replica → Shown
 
--- what a cluster shows: the rows of the topic and the key in the node's online list; the node's replica, without the messages
--- that it sent; or the replicas of all nodes
+-- what a cluster shows: the rows of the topic and the key in the node's online list; the node's replica, without the
+-- messages that the node sent; or the replicas of all nodes
 unfoldable pub shown : Question → Cluster → Shown
 shown OfCluster c = Replicas (map (λ x. x.replica) c)
 shown (OfNode node) c = Replicas (replicas_in (slice_get c node))

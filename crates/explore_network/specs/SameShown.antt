@@ -1,4 +1,4 @@
--- Whether two clusters show the same, as a truth value: by the codes of what they show.
+-- Whether two clusters show the same to a question, as a truth value: by the codes of their replicas, or by their rows.
 use Rattle.std.specs.Prelude.{◌==◌, ◌&&◌, Bool, true, false, List}
 use Rattle.std.specs.Ordering.{eq_by_cmp}
 use Rattle.std.specs.Cmp.Lexicographic.{pointwise}

@@ -14,15 +14,16 @@ count_of t ks = length (filter (is_of t) ks)
 abbrev pub counts_of : List Turn → List Kept → List ℕ
 counts_of ts ks = map (λ t. count_of t ks) ts
 
--- the turn, with how many of these steps are its own
+-- the turn of a node's own steps, or of the deliveries of a message at the node, with how many of these steps belong to
+-- it
 abbrev pub turn_of : List Kept → ℕ → Option (ℕ × ℕ) → Turn
 turn_of j node delivers = record { node = node; delivers = delivers; recorded = count_of (record { node = node; delivers = delivers; recorded = 0 }) j }
 
--- the turn of this step
+-- the turn to which this step belongs, with no step counted
 abbrev pub named : Kept → Turn
 named k = record { node = k.node; delivers = delivery_of k.step; recorded = 0 }
 
--- own steps of the first `count` nodes
+-- the turns of own steps, one for each of the first `count` nodes
 abbrev pub own_turns : List Kept → ℕ → List Turn
 own_turns j zero = []
 own_turns j (suc n) = own_turns j n ++ turn_of j n None ∷ []
@@ -35,6 +36,7 @@ place_from n (t ∷ ts) k = if is_of t k then Some n else place_from (suc n) ts 
 abbrev pub place_of : List Turn → Kept → Option ℕ
 place_of ts k = place_from 0 ts k
 
+-- the turns, and behind them that of step k if it isn't among them
 abbrev pub noted : List Kept → List Turn → Kept → List Turn
 noted j ts k = if is_some (place_of ts k) then ts else ts ++ turn_of j k.node (delivery_of k.step) ∷ []
 
@@ -42,12 +44,12 @@ unfoldable pub noted_all : List Kept → List Turn → List Kept → List Turn
 noted_all j ts [] = ts
 noted_all j ts (k ∷ ks) = noted_all j (noted j ts k) ks
 
--- own steps of each node, and the deliveries, by their first places
+-- all turns: first those of own steps, node by node, and then those of deliveries, in the order of their first steps
 abbrev pub turns_of : List Kept → ℕ → List Turn
 turns_of j count = noted_all j (own_turns j count) j
 
--- for a step after these: its turn, how many steps of that turn stand before it, and the number of the message that it sends, if
--- it sends one
+-- the rank of step k after the steps `done`: the place of its turn, how many steps of that turn stand before it, and
+-- the number of the message that it sends, if it sends one
 abbrev pub rank_of : List Turn → List Kept → Kept → Rank
 rank_of ts done k = record { turn = unwrap_or (place_of ts k) 0; before = count_of (named k) done; number = suc (length (sent_by done k.node)) }
 

@@ -46,7 +46,8 @@ pub record IsWithin (p : Plan) (w : List Kept) : Type 0 where
   pub again : extra p.turns (counts_of p.turns w) 0 ≤ p.again
   pub twice : AllByRecursion (λ (t : Turn). count_of t w - t.recorded ≤ t.recorded) p.turns
 
--- after these recorded steps the cluster and the counts of the turns are these; and each node took the first of its own steps
+-- after the steps w the cluster and the counts of the turns are these; w are recorded steps, of each node the first of
+-- its own ones; and no delivery came too often
 pub record IsAt (p : Plan) (w : List Kept) (counts : List ℕ) (c : Cluster) : Type 0 where
   pub ran : runs p.limits p.count w ≡ Ok c
   pub counted : counts ≡ counts_of p.turns w
@@ -58,15 +59,16 @@ pub record IsAt (p : Plan) (w : List Kept) (counts : List ℕ) (c : Cluster) : T
 abbrev pub IsTold : Plan → Question → List Outcome → List Kept → Type 0
 IsTold p q os w = IsSettled (walk_of p (told_by q os)) w
 
--- this step can come first, whatever outcomes were found
+-- the walk can take step k at once: if the beginning with k is settled, so is w, whatever outcomes were found
 abbrev pub CanBeFirst : Plan → List Kept → Cluster → Kept → Type 0
 CanBeFirst p w c k =
     (told : Cluster → Bool) (d : Cluster) → IsWalk (walk_of p told) → step c k.node k.step ≡ Ok d → IsSettled (walk_of p told) (w ++ k ∷ []) → IsSettled (walk_of p told) w
 
+-- whether the step at a place is the next of its turn and may come
 abbrev pub next_in : Plan → List ℕ → ℕ → Bool
 next_in p counts place = is_next p.turns p.ranks counts p.again place
 
--- the step at this place is the next of its turn, and can come first
+-- the step at this place is the next of its turn, and the walk can take it at once
 pub record IsFirst (p : Plan) (counts : List ℕ) (c : Cluster) (place : ℕ) : Type 0 where
   pub next : next_in p counts place ≡ true
   pub first : (w : List Kept) (k : Kept) → IsAt p w counts c → slice_get p.steps place ≡ Some k → CanBeFirst p w c k
@@ -90,7 +92,8 @@ abbrev pub AreApart : Question → List Outcome → Type 0
 AreApart q [] = Unit {0}
 AreApart q (o ∷ os) = AllByRecursion (λ (x : Outcome). same_shown (shown q o.cluster) (shown q x.cluster) ≡ false) os × AreApart q os
 
--- what each walk keeps
+-- what a walk has at each point: keys of beginnings from which it found all outcomes, all different and no more than
+-- may be kept; and outcomes of runs of the network, no two of which show the same
 pub record Keeps (p : Plan) (q : Question) (known : List (List ℕ)) (os : List Outcome) : Type 0 where
   pub keys : AllByRecursion (IsKeyOf p q os) known
   pub differ : AreDifferent known
@@ -110,7 +113,7 @@ pub record IsTooMany (p : Plan) (q : Question) (n : ℕ) : Type 0 where
   pub apart : AreApart q found
   pub count : length found ≡ n
 
--- there is a reason for the stop, unless it was want of memory
+-- if a walk stops for too many states, there are too many; of a refusal of memory nothing is said
 abbrev pub HasReason : Plan → Question → Stop → Type 0
 HasReason p q (TooManyStates n) = IsTooMany p q n
 HasReason p q OutOfMemory = Unit {0}
@@ -119,8 +122,8 @@ HasReason p q OutOfMemory = Unit {0}
 abbrev pub AreMore : List Outcome → List Outcome → Type 0
 AreMore os more = (rest : List Outcome) × (more ≡ os ++ rest)
 
--- what came of going on with the step at a place: if it is accepted, all outcomes that begin with it were found; and `did` says
--- that it was accepted
+-- what came of going on with the step at a place: if the step is accepted, all outcomes of runs that begin with w and
+-- it were found; and `did` is true only if it was accepted
 pub record GoesThrough (p : Plan) (q : Question) (w : List Kept) (c : Cluster) (place : ℕ) (did : Bool) (os : List Outcome) : Type 0 where
   pub told : (k : Kept) (d : Cluster) → slice_get p.steps place ≡ Some k → step c k.node k.step ≡ Ok d → IsTold p q os (w ++ k ∷ [])
   pub taken : did ≡ true → (k : Kept) × ((d : Cluster) × ((slice_get p.steps place ≡ Some k) × (step c k.node k.step ≡ Ok d)))
@@ -132,7 +135,7 @@ pub record IsReady (p : Plan) (q : Question) (path : List ℕ) (c : Cluster) (kn
   pub at : IsAt p (steps_at p.steps path) counts c
   pub left : length (steps_at p.steps path) + rest ≡ length p.steps + p.again
 
--- a step came after the path, and it was the next of its turn
+-- the step k at this place was just taken after the path, and was the next of its turn
 pub record IsBehind (p : Plan) (path : List ℕ) (place : ℕ) (k : Kept) (counts : List ℕ) (c : Cluster) : Type 0 where
   pub before : Cluster
   pub at : IsAt p (steps_at p.steps path) counts before
@@ -145,11 +148,13 @@ pub record Went (p : Plan) (q : Question) (os : List Outcome) (known : List (Lis
   pub more : AreMore os new
   pub keeps : Keeps p q known new
 
--- if the step at this place may come next, all outcomes that begin with it were found
+-- if the step at this place may come next and is accepted, all outcomes of runs that begin with the path and this step
+-- were found
 abbrev pub GoesThroughAt : Plan → Question → List ℕ → Cluster → List ℕ → List Outcome → ℕ → Type 0
 GoesThroughAt p q path c counts os place =
     (k : Kept) (d : Cluster) → next_in p counts place ≡ true → slice_get p.steps place ≡ Some k → step c k.node k.step ≡ Ok d → IsTold p q os (steps_at p.steps path ++ k ∷ [])
 
--- whichever place it is, all outcomes that begin with its step were found, if the step may come next
+-- if the step at a place may come next and is accepted, all outcomes of runs that begin with the path and this step
+-- were found: so for each place
 abbrev pub AllGoThrough : Plan → Question → List ℕ → Cluster → List ℕ → List Outcome → Type 0
 AllGoThrough p q path c counts os = (place : ℕ) → GoesThroughAt p q path c counts os place

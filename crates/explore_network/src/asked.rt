@@ -1,4 +1,5 @@
-//! The dots that a question is about: those of its presences, or the own dots of all nodes.
+//! The dots that a question is about: those of all entries with the question's topic and key, or, for a question
+//! without these, the own dots of all nodes.
 ghost use Rattle.std.specs.Prelude.{◌≡◌, ◌≤◌, ◌<◌, ◌++◌, [], ℕ, IfOk, OnOk, Ok, option_map, slice_get};
 ghost use Rattle.replica_core.specs.Limits.{AreNodeLimits};
 ghost use Rattle.replica_core.specs.Replicas.{fresh};
@@ -45,7 +46,7 @@ fn is_asked<A: Allocator>(step: &Step<A>, wanted_topic: &Word<A>, wanted_key: &W
     }
 }
 
-/// The dot that the node's next entry gets.
+/// The node's fresh dot: the own dot one above the last that it took.
 fn fresh<'a, B: Allocator>(node: &Node<'a, B>) -> Dot
     ensures dot { result ≡ fresh node.now.replica }
     ensures name { result.name < 32 }
@@ -60,7 +61,7 @@ fn fresh<'a, B: Allocator>(node: &Node<'a, B>) -> Dot
 }
 
 /// Appends the dot of the entry that a step makes, if the entry has this topic and key. `cluster` is the cluster before
-/// the step; nothing is appended if it doesn't have the step's node.
+/// the step. If the step's node isn't in the cluster, nothing is appended.
 fn put_asked<'a, B: Allocator>(
     dots: &mut Vec<Dot, &'a B>,
     cluster: &Cluster<'a, B>,
@@ -156,7 +157,7 @@ fn put_own_of<'a, B: Allocator>(
     }
 }
 
-/// Appends the own dots that the first `count` nodes have seen.
+/// Appends the own dots that the first `count` nodes have seen: node by node, each node's by rising clock.
 fn put_own_of_all<'a, B: Allocator>(
     dots: &mut Vec<Dot, &'a B>,
     cluster: &Cluster<'a, B>,
@@ -206,8 +207,8 @@ fn dots_of_nodes<'a, B: Allocator>(
     dots
 }
 
-/// The dots that a question is about: those of all entries with its topic and key that the steps make, or else all own
-/// dots that the nodes have seen at the end. `count` is the number of nodes.
+/// The dots that a question is about: if it asks for a topic and a key, those of all entries with these that the steps
+/// make; if not, all own dots that the nodes have seen at the end. `count` is the number of nodes.
 pub(crate) fn dots_of<'a, B: Allocator>(
     steps: &[Kept<&'a B>],
     count: u16,

@@ -1,5 +1,5 @@
-//! How many steps of each turn have been taken. A turn is a node's own steps (all but deliveries), or the deliveries of
-//! one message at one node (`network_rules::Turn`).
+//! How many steps of each turn have come. A turn is a node's own steps (all but deliveries), or the deliveries of one
+//! message at one node (`network_rules::Turn`).
 ghost use Rattle.std.specs.Prelude.{◌≡◌, ◌<◌, ◌+◌, ◌^◌, ◌++◌, ◌∷◌, [], List, IfOk, length};
 ghost use Rattle.journal_core.specs.Journals.{Kept as PlainKept};
 ghost use Rattle.explore_network.specs.Turns.{count_of, counts_of};
@@ -9,7 +9,7 @@ use network_rules::{Turn, count_at};
 use node_core::Oom;
 use std::alloc::Allocator;
 
-/// How many steps of `turn` have been taken after the step `kept`, if `count` of them had been taken before it.
+/// `count`, which says how many steps of `turn` have come, with the step `kept` counted in if the turn has it.
 fn count_with<A: Allocator>(turn: Turn, kept: &Kept<A>, count: usize) -> usize
     ensures { (w : List PlainKept) → count ≡ count_of turn w → length w + 1 < 2 ^ 64 → result ≡ count_of turn (w ++ kept.now ∷ []) }
 {
@@ -21,7 +21,7 @@ fn count_with<A: Allocator>(turn: Turn, kept: &Kept<A>, count: usize) -> usize
     }
 }
 
-/// How many steps of each turn have been taken after the step `kept`, given the counts before it.
+/// A copy of `counts`, which say how many steps of each turn have come, with the step `kept` counted in.
 pub(crate) fn counted<'a, B: Allocator>(
     kept: &Kept<&'a B>,
     turns: &[Turn],

@@ -42,7 +42,7 @@ impl From<Oom> for ExploreFault {
     }
 }
 
-/// The fault for a walk that ended early.
+/// The fault of an exploration whose walk ended early, for the same reason and with the same number of outcomes.
 pub(crate) fn fault_of(stop: Stop) -> ExploreFault
     ensures fills_not { result ≢ ExploreFault.MayFill }
     ensures few_steps { result ≢ ExploreFault.TooManySteps }

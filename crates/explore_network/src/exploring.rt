@@ -136,7 +136,7 @@ fn zeros<'a, B: Allocator>(count: usize, alloc: &'a B) -> Result<Vec<usize, &'a 
     vec![in alloc; 0usize; count]
 }
 
-/// The outcome of the recorded run.
+/// Plays the recorded run, and gives its outcome.
 fn recorded_outcome<'a, B: Allocator>(
     tour: &Tour<'a, '_, B>,
     alloc: &'a B,
@@ -206,7 +206,7 @@ fn explored_of<'a, B: Allocator>(walk: Walk<'a, B>) -> Explored<'a, B>
     Explored { outcomes, states }
 }
 
-/// Finds all outcomes of a plan whose recorded run is accepted.
+/// Finds all outcomes of a plan whose recorded run is accepted, and tells `watch` how far the walk has come.
 fn explore_plan<'a, B: Allocator, W: Watch<Walked>>(
     plan: &Plan<'a, B>,
     question: &Question<&'a B>,

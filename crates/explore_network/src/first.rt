@@ -28,7 +28,7 @@ fn is_alone<'a, B: Allocator>(
     are_spent(plan.turns(), counts, plan.again(), kept.node)
 }
 
-/// True only if the walk, where this step may come next, misses no outcome when it goes on with this step alone.
+/// True only if the walk misses no outcome when it goes on with this step alone, provided that the step may come next.
 fn goes_first<'a, B: Allocator>(
     plan: &Plan<'a, B>,
     cluster: &Cluster<'a, B>,
@@ -71,7 +71,7 @@ fn can_go_first<'a, B: Allocator>(
     goes_first(plan, cluster, counts, kept, *rank)
 }
 
-/// The place of the first step that may come next and goes first (see `goes_first`); `None` if there is none.
+/// The place of the first step that may come next and of which `goes_first` is true; `None` if there is none.
 pub(crate) fn first<'a, B: Allocator>(
     plan: &Plan<'a, B>,
     cluster: &Cluster<'a, B>,

@@ -156,7 +156,7 @@ fn begun<'a, B: Allocator>(
     Ok(names)
 }
 
-/// A copy of `count` sets of names, from the index `first` on. Behind the end of the list they are empty.
+/// A copy of `count` sets of names, from the index `first` on. Sets past the end of the list are empty.
 fn row<'a, B: Allocator>(
     names: &[NameSet],
     first: usize,

@@ -9,7 +9,7 @@ use bench_core::{Kept, Step};
 use node_core::Oom;
 use std::alloc::Allocator;
 
-/// Whether the step makes an entry.
+/// Whether the step makes an entry: a join or an update does.
 fn makes<A: Allocator>(step: &Step<A>) -> bool
     ensures { result ≡ makes (plain step.now) }
 {

@@ -28,8 +28,8 @@ fn find<A: Allocator>(turns: &[Turn], kept: &Kept<A>) -> Option<usize>
     None
 }
 
-/// The turn of a node's own steps if `delivers` is `None`, or else of the deliveries of that message at the node, with
-/// their count among `steps`.
+/// The turn of a node's own steps if `delivers` is `None`, or else of the deliveries of that message at the node. As
+/// `recorded` it has how many of `steps` belong to it.
 fn turn_of<A: Allocator>(steps: &[Kept<A>], node: u16, delivers: Option<(u16, u64)>) -> Turn
     ensures { result ≡ turn_of steps.now node delivers }
 {

@@ -62,7 +62,7 @@ fn tell<'a, B: Allocator>(tour: &Tour<'a, '_, B>, walk: &mut Walk<'a, B>) -> Res
     Ok(())
 }
 
-/// Plays a path, and gives its outcome.
+/// Plays the steps at the places of `path` on empty nodes, and gives the outcome: the path, and the cluster at its end.
 pub(crate) fn outcome_of<'a, B: Allocator>(
     tour: &Tour<'a, '_, B>,
     path: &[usize],
@@ -101,7 +101,7 @@ fn tell_end<'a, B: Allocator>(
     tell(tour, walk)
 }
 
-/// The key of the state in which the walk stands.
+/// The key of the state in which the walk stands: `cluster` and `counts` are those of that state.
 fn key_at<'a, B: Allocator>(
     tour: &Tour<'a, '_, B>,
     cluster: &Cluster<'a, B>,
@@ -332,8 +332,8 @@ fn tell_once<'a, B: Allocator, W: Watch<Walked>>(
 }
 
 /// Adds the outcomes of all runs that go on from where the walk stands, and leaves the cluster and the path unchanged;
-/// after a `Stop` they are those at which the walk ended. `counts` has how many steps of each turn came, and at most
-/// `left` steps can follow. Tells `watch` how far the walk has come.
+/// after a `Stop` cluster and path are those at which the walk ended. `counts` has how many steps of each turn came,
+/// and at most `left` steps can follow. Tells `watch` how far the walk has come.
 #[cycle(visit)]
 pub(crate) fn visit<'a, B: Allocator, W: Watch<Walked>>(
     tour: &Tour<'a, '_, B>,

@@ -41,8 +41,8 @@ fn explored<'a, B: Allocator, W: Watch<Walked>>(
     }
 }
 
-/// What the network could have made of the remaining steps, as a text: each outcome, with a run that leads there.
-/// `NoSuchNode` and `NoWord` come before the walk.
+/// What the network could have made of the remaining steps, as a text: each outcome, with a run that leads there. Looks
+/// for `NoSuchNode` first and then for `NoWord`, both before the walk.
 pub fn explore_asked<'a, B: Allocator, W: Watch<Walked>>(
     bench: &Bench<'a, B>,
     alloc: &'a B,
@@ -73,8 +73,8 @@ fn outcome_at<'l, 'a, B: Allocator>(
     outcomes.get(place as usize)
 }
 
-/// The run of the outcome with this number in the text, as a script that plays it. `NoSuchOutcome` if no outcome has
-/// that number.
+/// The run of the outcome with this number in the text of `explore_asked`, as a script that plays it. The faults are
+/// those of `explore_asked`, and `NoSuchOutcome` if the walk found no outcome of that number.
 pub fn run_of_outcome<'a, B: Allocator, W: Watch<Walked>>(
     bench: &Bench<'a, B>,
     alloc: &'a B,

@@ -55,7 +55,7 @@ impl From<WordFault> for ReportFault {
     }
 }
 
-/// The fault to report for a walk that may keep `states` states.
+/// `fault` as a `ReportFault`. `TooManyStates` also gets `states`, the number of states that the walk could keep.
 pub(crate) fn fault_of(fault: ExploreFault, states: usize) -> ReportFault
     ensures { result ≡ fault_of_explore states fault }
 {

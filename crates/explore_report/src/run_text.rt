@@ -10,7 +10,7 @@ use payload_core::Oom;
 use std::alloc::Allocator;
 use transcript_core::{put_nodes_line, put_step_line};
 
-/// Appends the line of the step at `place`, if there is one.
+/// Appends `indent` and the line of the step at `place`; nothing if there is no such step.
 fn put_step<'a, A: Allocator, N: Allocator, B: Allocator>(
     journal: &Journal<'a, B>,
     text: &mut String<A>,
@@ -27,7 +27,7 @@ fn put_step<'a, A: Allocator, N: Allocator, B: Allocator>(
     }
 }
 
-/// Appends the line of the step at each of `places`.
+/// Appends the line of the step at each of `places`, after `indent`.
 fn put_steps<'a, A: Allocator, N: Allocator, B: Allocator>(
     journal: &Journal<'a, B>,
     text: &mut String<A>,

@@ -75,7 +75,7 @@ fn put_nodes<'a, A: Allocator, N: Allocator, B: Allocator>(
     Ok(())
 }
 
-/// Appends the rows of a topic and a key at a node, each after `= `.
+/// Appends the rows of a topic and a key in a node's online list, each after `= `; nothing if there is no such node.
 fn put_presences<'a, A: Allocator, N: Allocator, B: Allocator>(
     found: Option<&Node<'a, B>>,
     text: &mut String<A>,
@@ -94,7 +94,8 @@ fn put_presences<'a, A: Allocator, N: Allocator, B: Allocator>(
     put
 }
 
-/// Appends what the cluster shows to the question.
+/// Appends what the cluster shows to the question: what `show` and `dots` print of each node or of one node, or the
+/// rows of a topic and a key.
 #[tactic(auto, unfolding(crate::specs::Texts::shown_text))]
 pub(crate) fn put_shown<'a, A: Allocator, N: Allocator, B: Allocator>(
     cluster: &Cluster<'a, B>,

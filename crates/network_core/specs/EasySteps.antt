@@ -1,4 +1,4 @@
--- Steps that can be taken first without missing an outcome: a node's own ones, and ups of names that it knows.
+-- Easy steps: a walk over runs of the network that takes one as soon as it can come misses no outcome.
 use Rattle.std.specs.Prelude.{◌≡◌, ◌≢◌, ◌⊎◌, ℕ, ◌≤◌, Bool, true, false, List, [], ◌∷◌, ◌++◌, slice_get, Some, Ok, Err}
 use Rattle.std.specs.List.{AllByRecursion}
 use Rattle.replica_core.specs.declared.node_limits.NodeLimits.{NodeLimits}
@@ -12,7 +12,8 @@ use Rattle.bench_core.specs.Runs.{runs}
 use Rattle.network_core.specs.NetworkRuns.{IsNetworkRun, ordered}
 use Rattle.network_core.specs.Room.{made}
 
--- whether a step concerns only its node's own entries, its delta and the names that it knows
+-- whether a step is of a kind that is always easy: it concerns only its node's own entries, its delta and names it
+-- knows
 abbrev pub is_own : Operation → Bool
 is_own (Join presence) = true
 is_own (Leave pid topic key) = true
@@ -23,20 +24,23 @@ is_own Request = true
 is_own (Down name) = true
 is_own _ = false
 
+-- the kept step with this number, of this node
 abbrev pub step_of : ℕ → ℕ → Operation → Kept
 step_of number node s = record { number = number; node = node; step = s }
 
--- a step that can come before deliveries at its node: an own one, or an up of a name that the node knows by then
+-- step s of a node is easy after the steps `first`: it is of a kind that always is, or an up of a name that the node
+-- then knows
 pub data IsEasy (l : NodeLimits) (count : ℕ) (first : List Kept) (node : ℕ) (s : Operation) : Type 0 where
   IsOwn : is_own s ≡ true → IsEasy l count first node s
   IsKnownUp : (name : ℕ) → s ≡ Up name →
       ((c : Cluster) (x : Node) → runs l count first ≡ Ok c → slice_get c node ≡ Some x → is_known x.replica name ≡ true) → IsEasy l count first node s
 
--- a delivery at this node, or a step of another
+-- a step that an easy step of node n may pass: a delivery at n, or a step of another node
 abbrev pub MayBeFirst : ℕ → Kept → Type 0
 MayBeFirst n k = (k.node ≢ n) ⊎ ((k.node ≡ n) × ((sender : ℕ) × ((message : ℕ) × (k.step ≡ Deliver sender message))))
 
--- an own step after deliveries at its node and steps of other nodes can be moved before them all, unless that fills a node
+-- an easy step may pass all steps directly before it that are deliveries at its node or steps of other nodes, and the
+-- run still ends in the same cluster, unless a step is then refused as `EntriesFull`
 abbrev pub EagerLaw : Type 0
 EagerLaw =
     (l : NodeLimits) (count number node : ℕ) (first before rest : List Kept) (s : Operation) → IsEasy l count first node s → AllByRecursion (MayBeFirst node) before →
@@ -49,8 +53,9 @@ pub record GoesOn (l : NodeLimits) (count : ℕ) (j : List Kept) (lost again : �
   pub is_run : IsNetworkRun j lost again (first ++ rest)
   pub ends : runs l count (first ++ rest) ≡ Ok c
 
--- if the next ordered step of a node is easy, it can come before all else: what a run can lead to, a run that begins with it
--- leads to
+-- if a node's next step other than a delivery is easy, a walk may take it at once: whatever a run with this beginning
+-- leads to, so does a run of the network that goes on with this step, if the run makes no more entries than a node may
+-- hold
 abbrev pub EagerStepLaw : Type 0
 EagerStepLaw =
     (l : NodeLimits) (count : ℕ) (j : List Kept) (lost again node : ℕ) (first more : List Kept) (k : Kept) (c : Cluster) →

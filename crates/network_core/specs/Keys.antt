@@ -15,7 +15,8 @@ use Rattle.network_core.specs.Alike.{Cares, ClusterAlike}
 use Rattle.network_core.specs.Made.{own_after}
 use Rattle.network_core.specs.NetworkRuns.{ordered}
 
--- what a step sends, as far as its node's own steps decide it: this message; or one that has what the node holds; or nothing
+-- what a step sends: a message that its node's steps other than deliveries decide (`Some (Some message)`), or one with
+-- what the node has seen, by deliveries too (`Some None`), or nothing (`None`)
 abbrev pub sent_own : Operation → Replica → Option (Option Message)
 sent_own Broadcast r = Some (Some (delta_message r))
 sent_own Request r = Some (Some (request_of r))
@@ -23,24 +24,24 @@ sent_own (Extract names) r = Some None
 sent_own (Answer sender number) r = Some None
 sent_own _ r = None
 
--- what several steps send
+-- what steps of one node send, one after another
 abbrev pub own_sent : Replica → List Kept → List (Option Message)
 own_sent r [] = []
 own_sent r (k ∷ ks) = option_to_list (sent_own k.step r) ++ own_sent (own_after k.step r) ks
 
--- the messages that a node sent with these steps; `None` for a message that these steps don't decide
+-- the messages that a node sends in these steps, by number; `None` for that of an extract or an answer
 abbrev pub sent_of : NodeLimits → ℕ → List Kept → List (Option Message)
 sent_of l n first = own_sent (opening n l) (ordered first n)
 
--- in both clusters the dots that matter stand alike: those of other names at nodes, and those in messages that have what their
--- nodes hold
+-- in both clusters the dots that matter stand alike: at each node those of other names than its own, and in each
+-- message of an extract or an answer
 pub record StandAlike (t : Cares) (l : NodeLimits) (first : List Kept) (c d : Cluster) : Type 0 where
   pub nodes : (n : ℕ) (x y : Node) → slice_get c n ≡ Some x → slice_get d n ≡ Some y → (q : Dot) → t.at n q ≡ true → (q.name == n) ≡ false →
       standing y.replica.store q ≡ standing x.replica.store q
   pub messages : (n i : ℕ) (x y : Node) (m k : Message) → slice_get c n ≡ Some x → slice_get d n ≡ Some y → numbered x.outbox i ≡ Some m → numbered y.outbox i ≡ Some k →
       numbered (sent_of l n first) i ≡ Some None → (q : Dot) → t.of n i q ≡ true → standing (store_of k) q ≡ standing (store_of m) q
 
--- if each node took the same steps, clusters in which the dots that matter stand alike are alike
+-- if each node took the same steps, deliveries apart, clusters in which the dots that matter stand alike are alike
 abbrev pub StandAlikeLaw : Type 0
 StandAlikeLaw =
     (l : NodeLimits) (count : ℕ) (first other : List Kept) (t : Cares) (c d : Cluster) → runs l count first ≡ Ok c → runs l count other ≡ Ok d →

@@ -1,4 +1,5 @@
--- The dots of the entries that a run makes: its nodes' own steps give them, whatever was delivered.
+-- Which entries a run makes, and at which dots: each node's steps other than deliveries decide it, whatever is
+-- delivered.
 use Rattle.std.specs.Prelude.{◌≡◌, ℕ, Bool, true, List, [], ◌∷◌, ◌++◌, slice_get, Some, Ok}
 use Rattle.std.specs.FinMap as fin
 use Rattle.dots_core.specs.declared.dot.Dot.{Dot}
@@ -16,7 +17,7 @@ use Rattle.bench_core.specs.Laws.{presence_made}
 use Rattle.network_core.specs.NetworkRuns.{IsNetworkRun, ordered}
 use Rattle.network_core.specs.Rows.{AreWanted, is_row_of}
 
--- what an accepted step makes of its node's own part
+-- a replica after an accepted step, where nothing is ever delivered: what the step does to own dots, delta and statuses
 abbrev pub own_after : Operation → Replica → Replica
 own_after (Join p) r = joined p r
 own_after (Leave pid topic key) r = left_each (tracked_dots r pid topic key) r
@@ -31,12 +32,13 @@ own_after (Up name) r = with_status name statuses.Up r
 own_after (Down name) r = with_status name statuses.Down r
 own_after (Permdown name) r = forgotten name r
 
--- what accepted steps make, one after another, of their node's own part
+-- a replica after accepted steps, one after another, where nothing is ever delivered
 abbrev pub own_from : Replica → List Kept → Replica
 own_from r [] = r
 own_from r (k ∷ ks) = own_from (own_after k.step r) ks
 
--- the entry was made by a join or an update of its node, at the dot that the node's own steps before it give
+-- a join or an update among these steps made presence p at dot d: d is fresh at the step's node after the node's
+-- earlier steps
 pub record IsMade (l : NodeLimits) (ks : List Kept) (d : Dot) (p : Presence) : Type 0 where
   pub node : ℕ
   pub before : List Kept
@@ -46,24 +48,24 @@ pub record IsMade (l : NodeLimits) (ks : List Kept) (d : Dot) (p : Presence) : T
   pub makes : presence_made k.step ≡ Some p
   pub at : d ≡ fresh (own_from (opening node l) before)
 
--- each entry of a node was made by a step of the run
+-- each entry that a node has at the end of a run was made by a join or an update in the run
 abbrev pub MadeLaw : Type 0
 MadeLaw =
     (l : NodeLimits) (count : ℕ) (ks : List Kept) (c : Cluster) (n : ℕ) (x : Node) (d : Dot) (p : Presence) → runs l count ks ≡ Ok c → slice_get c n ≡ Some x →
     fin.get x.replica.store.entries d ≡ Some p → IsMade l ks d p
 
--- the dot of a node's next entry is the one that its own steps give
+-- a node's fresh dot at the end of a run depends on its steps other than deliveries alone
 abbrev pub FreshLaw : Type 0
 FreshLaw =
     (l : NodeLimits) (count : ℕ) (ks : List Kept) (c : Cluster) (n : ℕ) (x : Node) → runs l count ks ≡ Ok c → slice_get c n ≡ Some x →
     fresh x.replica ≡ fresh (own_from (opening n l) (ordered ks n))
 
--- the dots that the recorded run makes under the topic and the key are wanted
+-- `wanted` holds of the dot of each entry that the recorded run makes under the topic and the key
 abbrev pub WantsMade : NodeLimits → List Kept → (Dot → Bool) → List ℕ → List ℕ → Type 0
 WantsMade l j wanted topic key = (d : Dot) (p : Presence) → IsMade l j d p → is_row_of topic key (row_of (d, p)) ≡ true → wanted d ≡ true
 
--- if the dots that the recorded run makes under the topic and the key are wanted, so are the dots of all entries under them at
--- each end of a run of the network
+-- if `wanted` holds of the dots of all entries that the recorded run makes under the topic and the key, it holds of
+-- those of all entries that a node has under them at the end of a run of the network
 abbrev pub WantedLaw : Type 0
 WantedLaw =
     (l : NodeLimits) (count : ℕ) (j r : List Kept) (lost again n : ℕ) (wanted : Dot → Bool) (topic key : List ℕ) (c : Cluster) (x : Node) → WantsMade l j wanted topic key →

@@ -1,18 +1,19 @@
--- What the network could have made of a run: the runs in which each node does what it did, and messages come otherwise.
+-- What the network could have made of a run: each node takes the same steps, deliveries apart, and its messages come at
+-- other times, get lost or come again.
 use Rattle.std.specs.Prelude.{◌≡◌, ℕ, ◌≤◌, ◌==◌, ◌&&◌, not, Bool, true, false, List, ◌++◌, filter, length}
 use Rattle.node_core.specs.Operations.{Operation, Deliver}
 use Rattle.journal_core.specs.Journals.{Kept}
 
--- whether a step delivers a message, and answers nothing
+-- whether a step is a delivery; an answer is none
 abbrev pub is_delivery : Operation → Bool
 is_delivery (Deliver sender number) = true
 is_delivery _ = false
 
--- whether a step is one of this node, and no delivery
+-- whether a step is one of this node other than a delivery: a run of the network keeps the order of these
 abbrev pub is_ordered : ℕ → Kept → Bool
 is_ordered n k = (k.node == n) && not (is_delivery k.step)
 
--- what a node does besides deliveries, in its order
+-- a node's steps other than deliveries, in their order
 abbrev pub ordered : List Kept → ℕ → List Kept
 ordered ks n = filter (is_ordered n) ks
 
@@ -24,18 +25,20 @@ deliveries ks = filter (λ k. is_delivery k.step) ks
 abbrev pub how_many : (ℕ → Operation → Bool) → List Kept → ℕ
 how_many p ks = length (filter (λ k. p k.node k.step) ks)
 
--- whether it is a delivery at this node of this message of the sender
+-- whether a step of node `n` is a delivery at this node of the sender's message of this number
 abbrev pub is_of_kind : ℕ → ℕ → ℕ → ℕ → Operation → Bool
 is_of_kind node sender number n (Deliver s i) = (n == node) && ((s == sender) && (i == number))
 is_of_kind node sender number n _ = false
 
--- the lists have the same steps, each as often, whatever the numbers: for each test as many pass
+-- the lists have the same steps of the same nodes, each as often, in any order and with any numbers: as many of both
+-- pass each test
 abbrev pub HaveSame : List Kept → List Kept → Type 0
 HaveSame ks js = (p : ℕ → Operation → Bool) → how_many p ks ≡ how_many p js
 
--- r is a run of the network if j is the recorded run: what each node does besides deliveries is as in j, in the same order; and
--- the deliveries are those of j, each at its node, at any places; up to `lost` of them are missing, and up to `again` come a
--- second time. Whether it is possible is said apart: if it runs, no delivery stands before its send
+-- r is a run of the network, where j is the recorded run: each node takes its steps of j other than deliveries, in
+-- their order, and its deliveries of j at any places; of all deliveries up to `lost` are missing, and up to `again`
+-- come a second time. Whether r is possible is said apart, by `runs`: if it runs, no delivery comes before the send of
+-- its message
 pub record IsNetworkRun (j : List Kept) (lost again : ℕ) (r : List Kept) : Type 0 where
   pub own : (n : ℕ) → ordered r n ≡ ordered j n
   pub missing : List Kept
@@ -43,6 +46,7 @@ pub record IsNetworkRun (j : List Kept) (lost again : ℕ) (r : List Kept) : Typ
   pub once : List Kept
   pub few_missing : length missing ≤ lost
   pub few_repeated : length repeated ≤ again
-  -- the deliveries that come a second time are some of those recorded
+  -- `repeated`, which come a second time, and `once`, which don't, are together the recorded deliveries
   pub of_these : HaveSame (repeated ++ once) (deliveries j)
+  -- the run's deliveries and the missing ones are together the recorded ones and the repeated ones
   pub delivered : HaveSame (deliveries r ++ missing) (deliveries j ++ repeated)

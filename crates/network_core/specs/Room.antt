@@ -1,4 +1,4 @@
--- Runs that can fill no node.
+-- Runs in which no node can get more entries than it may hold.
 use Rattle.std.specs.Prelude.{◌≢◌, ℕ, ◌+◌, ◌≤◌, if◌then◌else◌, Bool, List, [], ◌∷◌, is_some, Err}
 use Rattle.replica_core.specs.declared.node_limits.NodeLimits.{NodeLimits}
 use Rattle.node_core.specs.Operations.{Operation}

@@ -1,4 +1,4 @@
--- The rows of a topic and a key, which the dots that have them give.
+-- The rows of a topic and a key, and the dots that decide them.
 use Rattle.std.specs.Prelude.{◌≡◌, ℕ, ◌&&◌, Bool, true, List, filter}
 use Rattle.std.specs.List.{AllByRecursion}
 use Rattle.std.specs.FinMap as fin
@@ -23,16 +23,17 @@ rows_of topic key r = filter (is_row_of topic key) (shown r)
 abbrev pub online_rows_of : List ℕ → List ℕ → Replica → List Row
 online_rows_of topic key r = filter (is_row_of topic key) (online_of r)
 
--- if the shown rows of the topic and the key are the same, so are those in the online lists
+-- if two replicas show the same rows of the topic and the key in the order of dots, so do their online lists
 abbrev pub OnlineRowsLaw : Type 0
 OnlineRowsLaw = (topic key : List ℕ) (r s : Replica) → rows_of topic key r ≡ rows_of topic key s → online_rows_of topic key r ≡ online_rows_of topic key s
 
--- each entry of the topic and the key stands at a dot that is wanted
+-- `wanted` holds of the dot of each entry that the replica has under the topic and the key
 abbrev pub AreWanted : (Dot → Bool) → List ℕ → List ℕ → Replica → Type 0
 AreWanted wanted topic key r =
     AllByRecursion (λ (e : Dot × Presence). is_row_of topic key (row_of e) ≡ true → wanted e.0 ≡ true) (fin.entries r.store.entries)
 
--- replicas that are the same in these dots show the same rows
+-- if `wanted` holds of the dots of all entries that two replicas have under the topic and the key, and the replicas are
+-- alike in the wanted dots, they show the same rows of the topic and the key
 abbrev pub RowsLaw : Type 0
 RowsLaw =
     (wanted : Dot → Bool) (topic key : List ℕ) (r s : Replica) → ReplicaAlike wanted r s → AreWanted wanted topic key r → AreWanted wanted topic key s →

@@ -1,4 +1,4 @@
--- A beginning of runs of the network is settled if all that can come from it ends in outcomes that were found.
+-- A beginning of a run is *settled* if each run of the network that begins so ends in an outcome that was found.
 use Rattle.std.specs.Prelude.{◌≡◌, ◌⊎◌, ℕ, ◌+◌, ◌≤◌, ◌<◌, length, Bool, true, false, List, [], ◌∷◌, ◌++◌, Ok}
 use Rattle.std.specs.List.{AllByRecursion}
 use Rattle.replica_core.specs.declared.node_limits.NodeLimits.{NodeLimits}
@@ -14,8 +14,8 @@ use Rattle.network_core.specs.Keys.{StandAlike}
 use Rattle.network_core.specs.NetworkRuns.{IsNetworkRun, how_many, is_delivery, is_of_kind, ordered}
 use Rattle.network_core.specs.Room.{made}
 
--- what all runs of the network have in common: the limits, the number of nodes, the recorded run, what may be lost and come
--- again, what matters, and the clusters whose outcomes were found
+-- what a walk over runs of the network is about: the limits, the number of nodes, the recorded run, how many deliveries
+-- may be lost and come again, which dots matter, and the clusters whose outcomes were found
 pub record Walk : Type 0 where
   pub limits : NodeLimits
   pub count : ℕ
@@ -31,68 +31,73 @@ pub record IsEnd (g : Walk) (c : Cluster) : Type 0 where
   pub is_run : IsNetworkRun g.recorded g.lost g.again run
   pub ends : runs g.limits g.count run ≡ Ok c
 
--- the recorded run fills no node, the cone is closed, and of two ends that are alike in what matters either both were found or
--- neither
+-- the recorded run makes no more entries than a node may hold; the cone is closed; and of two ends that are alike in
+-- what matters, either both count as found or neither
 pub record IsWalk (g : Walk) : Type 0 where
   pub room : made g.recorded ≤ g.limits.entries
   pub cone : IsCone g.recorded g.cone
   pub told : (c d : Cluster) → IsEnd g c → IsEnd g d → ClusterAlike (cares g.cone g.recorded) c d → g.told d ≡ true → g.told c ≡ true
 
--- whatever a run of the network that begins like this leads to, was found
+-- each cluster to which a run of the network that begins with w leads counts as found
 abbrev pub IsSettled : Walk → List Kept → Type 0
 IsSettled g w = (c : Cluster) → GoesOn g.limits g.count g.recorded g.lost g.again w c → g.told c ≡ true
 
+-- the steps w are accepted, and lead to cluster c
 abbrev pub Ran : Walk → List Kept → Cluster → Type 0
 Ran g w c = runs g.limits g.count w ≡ Ok c
 
--- this is the next step of its node, deliveries apart
+-- k is the next step of its node after w, deliveries apart
 abbrev pub IsNext : Walk → List Kept → Kept → Type 0
 IsNext g w k = (later : List Kept) × (ordered g.recorded k.node ≡ ordered w k.node ++ k ∷ later)
 
--- no run of the network that begins like this has another delivery at the node
+-- nothing more is delivered at node n in any run of the network that begins with w
 abbrev pub IsQuiet : Walk → List Kept → ℕ → Type 0
 IsQuiet g w n = (rest : List Kept) → IsNetworkRun g.recorded g.lost g.again (w ++ rest) → AllByRecursion (λ (x : Kept). x.node ≡ n → is_delivery x.step ≡ false) rest
 
--- when a beginning is settled
+-- when a beginning w is settled: each field is a case
 pub record SettleLaw : Type 0 where
-  -- the next step is easy, and after it all is settled
+  -- a node's next step k is easy, and w with k is settled
   pub easy : (g : Walk) (w : List Kept) (k : Kept) → IsWalk g → IsNext g w k → IsEasy g.limits g.count w k.node k.step → IsSettled g (w ++ k ∷ []) → IsSettled g w
-  -- the next step is one of a node at which nothing more is delivered, and after it all is settled
+  -- nothing more is delivered at a node, its next step k is accepted, and w with k is settled
   pub alone : (g : Walk) (w : List Kept) (k : Kept) (c d : Cluster) → IsWalk g → IsNext g w k → IsQuiet g w k.node → Ran g w c → step c k.node k.step ≡ Ok d →
       IsSettled g (w ++ k ∷ []) → IsSettled g w
-  -- the next is a delivery that brings nothing which matters, and after it all is settled
+  -- a delivery brings nothing that matters, is accepted, and came less often than it was recorded, and w with it is
+  -- settled
   pub idle : (g : Walk) (w : List Kept) (i node sender number : ℕ) (c d : Cluster) → IsWalk g → Ran g w c → IsIdle (cares g.cone w) c node sender number →
       step c node (Deliver sender number) ≡ Ok d → how_many (is_of_kind node sender number) w < how_many (is_of_kind node sender number) g.recorded →
       IsSettled g (w ++ delivery i node sender number ∷ []) → IsSettled g w
-  -- another beginning is settled, after which the same is left to do and the dots that matter stand alike
+  -- another beginning v is settled, after which the same is left to do and the dots that matter stand alike
   pub same : (g : Walk) (w v : List Kept) (c d : Cluster) → IsWalk g → Ran g w c → Ran g v d → LeaveSame w v → StandAlike (cares g.cone w) g.limits w c d → IsSettled g v → IsSettled g w
-  -- the last step is a delivery, and the same beginning with another number for that step is settled
+  -- a beginning that ends with a delivery is settled with one number at that step if it is with another
   pub renumbered : (g : Walk) (w : List Kept) (i j node sender number : ℕ) (c d : Cluster) → IsWalk g → Ran g w c → step c node (Deliver sender number) ≡ Ok d →
       IsSettled g (w ++ delivery i node sender number ∷ []) → IsSettled g (w ++ delivery j node sender number ∷ [])
-  -- the cluster was found, if the run may end here, and after each step that can come all is settled
+  -- w with each accepted step that can come next is settled; and the cluster counts as found, if a run may end here
   pub all : (g : Walk) (w : List Kept) (c : Cluster) → Ran g w c → (IsNetworkRun g.recorded g.lost g.again w → g.told c ≡ true) →
       ((k : Kept) (d : Cluster) (rest : List Kept) → IsNetworkRun g.recorded g.lost g.again (w ++ k ∷ rest) → step c k.node k.step ≡ Ok d → IsSettled g (w ++ k ∷ [])) → IsSettled g w
 
--- a run of the network is no longer than the recorded run and what comes a second time
+-- a run of the network has at most as many steps as the recorded run, and one more for each delivery that may come
+-- again
 abbrev pub LengthLaw : Type 0
 LengthLaw = (j r : List Kept) (lost again : ℕ) → IsNetworkRun j lost again r → length r ≤ length j + again
 
--- as many deliveries of a message came to a node as were recorded, and none comes a second time
+-- no delivery of this message at this node is left after w: as many came as were recorded, and none may come a second
+-- time, or none was recorded
 pub record IsSpent (g : Walk) (w : List Kept) (n sender number : ℕ) : Type 0 where
   pub came : how_many (is_of_kind n sender number) g.recorded ≤ how_many (is_of_kind n sender number) w
   pub last : (g.again ≡ 0) ⊎ (how_many (is_of_kind n sender number) g.recorded ≡ 0)
 
--- if as many deliveries of each message came to a node as can come, nothing more is delivered there
+-- if no delivery of any message at the node is left, nothing more is delivered there
 abbrev pub QuietLaw : Type 0
 QuietLaw = (g : Walk) (w : List Kept) (n : ℕ) → ((sender number : ℕ) → IsSpent g w n sender number) → IsQuiet g w n
 
--- what is delivered next was recorded, and came less than twice as often as it was recorded; if nothing comes a second time, less
--- often than it was recorded
+-- the delivery was recorded, and came in w less than twice as often as it was recorded; less often than it was
+-- recorded, if nothing may come a second time
 pub record MayCome (g : Walk) (w : List Kept) (n sender number : ℕ) : Type 0 where
   pub recorded : 0 < how_many (is_of_kind n sender number) g.recorded
   pub twice : how_many (is_of_kind n sender number) w < how_many (is_of_kind n sender number) g.recorded + how_many (is_of_kind n sender number) g.recorded
   pub once : g.again ≡ 0 → how_many (is_of_kind n sender number) w < how_many (is_of_kind n sender number) g.recorded
 
+-- a delivery that comes next in a run of the network keeps to `MayCome`
 abbrev pub NextDeliveryLaw : Type 0
 NextDeliveryLaw =
     (g : Walk) (w rest : List Kept) (i n sender number : ℕ) → IsNetworkRun g.recorded g.lost g.again (w ++ delivery i n sender number ∷ rest) → MayCome g w n sender number

@@ -26,11 +26,11 @@ pub fn never_full_law()
     ensures { NeverFullLaw }
 {}
 
-/// An easy step (see `is_easy` of `network_rules`) can be moved before any steps directly before it, if each of these
-/// is a delivery at the easy step's node or a step of another node, and no step is then refused as `EntriesFull`. So in
-/// a run of the network that makes no more entries than a node may hold, a node's next step other than a delivery can
-/// come at once if it is easy: some run of the network with the same beginning and then this step ends in the same
-/// cluster.
+/// An easy step (see `is_easy` of `network_rules`) can be moved before any steps directly before it, and the run still
+/// ends in the same cluster, if each of these steps is a delivery at the easy step's node or a step of another node,
+/// and no step is then refused as `EntriesFull`. So in a run of the network that makes no more entries than a node may
+/// hold, a node's next step other than a delivery can come at once if it is easy: some run of the network with the same
+/// beginning and then this step ends in the same cluster.
 pub fn easy_law()
     ensures in_runs { EagerLaw }
     ensures in_network_runs { EagerStepLaw }
@@ -44,17 +44,17 @@ pub fn alike_law()
 {}
 
 /// Each entry in a run of the network was made by a join or an update of the node that its dot names. The dot follows
-/// from that node's own steps, which are those of the recorded run. So the recorded run tells which entries there can
-/// be.
+/// from that node's steps other than deliveries, which are those of the recorded run. So the recorded run tells which
+/// entries there can be.
 pub fn made_law()
     ensures made { MadeLaw }
     ensures wanted { WantedLaw }
     ensures fresh { FreshLaw }
 {}
 
-/// The dots that nodes have seen at the end of a run are among those that the nodes' own steps give. If a node's
-/// replicas at the ends of two runs of the network differ at most in dots that the recorded run doesn't give, they are
-/// the same.
+/// Each dot that a node has seen at the end of a run was taken by a step of the node that the dot names. If a node's
+/// replicas at the ends of two runs of the network differ at most in dots that no step of the recorded run takes, they
+/// are the same.
 pub fn seen_law()
     ensures seen { SeenLaw }
     ensures same { SameReplicaLaw }
@@ -68,11 +68,12 @@ pub fn rows_law()
 {}
 
 /// If what matters after each step of the recorded run comes from what matters before the step, the same is true of
-/// each run of the network. If, besides, the recorded run makes no more entries than a node may hold, one beginning of
-/// a run serves for another if the same steps are still to be taken and the clusters are alike: for each run with the
-/// other beginning, a run with this one ends in an alike cluster. In the same way a delivery that has come less often
-/// than it was recorded can come first if it is accepted and brings nothing that matters. The next step of a node at
-/// which nothing more is delivered can always come first, if it is accepted.
+/// each run of the network. Let, besides, the recorded run make no more entries than a node may hold. Then one
+/// beginning of a run serves for another if the same steps are left to take after both and the clusters are alike: for
+/// each run with the other beginning, some run with this one ends in an alike cluster. And a delivery that is accepted,
+/// brings nothing that matters and came less often than it was recorded can come at once: some run that goes on with
+/// the delivery ends in an alike cluster. Without these conditions, a node's next step can come at once if it is
+/// accepted and nothing more is delivered at the node: the cluster at the end is the same.
 pub fn cone_law()
     ensures passes { ConeLaw }
     ensures stands { StandsLaw }
@@ -80,26 +81,27 @@ pub fn cone_law()
     ensures alone { AloneLaw }
 {}
 
-/// If each node took the same steps, deliveries apart, in two clusters, and the dots that matter stand the same in
-/// both, the clusters are alike.
+/// If each node took the same steps, deliveries apart, in two runs, and the dots that matter stand the same at both
+/// ends, the clusters there are alike.
 pub fn keys_law()
     ensures { StandAlikeLaw }
 {}
 
-/// Let the recorded run make no more entries than a node may hold, let what matters after each of its steps come from
-/// what matters before the step, and of two alike ends let either both or neither count as found. Then every run of the
-/// network with a given beginning ends in an outcome that was found, if that holds after one more step that can come
-/// first; or if it holds of another beginning that serves for this one; or if it holds after each step that can come
-/// next, and the beginning's own outcome was found or no run may end there. A run of the network has at most as many
-/// steps as the recorded run, and one more for each delivery that may come a second time.
+/// Call a beginning of a run settled if each run of the network that begins so ends in an outcome that was found. Let
+/// the recorded run make no more entries than a node may hold, let what matters after each of its steps come from what
+/// matters before the step, and of two alike ends let both or neither count as found. Then a beginning is settled if it
+/// is with one more step that can come at once (see `easy_law` and `cone_law`); or if another beginning that serves for
+/// it is; or if it is with each step that can come next, and its own cluster counts as found where a run may end there.
+/// A run of the network has at most as many steps as the recorded run, and one more for each delivery that may come a
+/// second time.
 pub fn settle_law()
     ensures settled { SettleLaw }
     ensures length { LengthLaw }
 {}
 
-/// A delivery that comes next in a run was recorded. Before it the run has fewer such deliveries than twice the
-/// recorded ones, and fewer than the recorded ones if none may come a second time. If the run has all recorded
-/// deliveries at a node, and none may come a second time, nothing more is delivered there.
+/// Let a delivery of some message at a node come next in a run. Then one was recorded, and fewer than twice the
+/// recorded ones have come before; fewer than the recorded ones, if none may come a second time. Where all recorded
+/// deliveries at a node have come, and none may come a second time, nothing more is delivered.
 pub fn next_law()
     ensures quiet { QuietLaw }
     ensures next { NextDeliveryLaw }

@@ -1,4 +1,4 @@
--- How a dot stands among dots that were seen and entries.
+-- How a dot stands, by the dots that were seen and the entries: 0 unseen, 1 live, 2 gone.
 use Rattle.std.specs.Prelude.{ℕ}
 use Rattle.dots_core.specs.declared.dot.Dot.{Dot}
 use Rattle.dots_core.specs.Dots.{Dots}

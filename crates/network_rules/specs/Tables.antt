@@ -15,8 +15,8 @@ use Rattle.network_rules.specs.declared.turn.Rank.{Rank}
 use Rattle.network_rules.specs.declared.turn.Turn.{Turn}
 use Rattle.network_rules.specs.NameSets.{all_names}
 
--- the dots that are asked for; for each node, after each number of its own steps, the names whose dots matter there; and for each
--- message of a node the names whose dots matter in it
+-- the dots that are asked for; for each node, after each number of its own steps, the names whose dots matter there;
+-- and for each message of a node the names whose dots matter in it
 pub record Tables : Type 0 where
   pub dots : List Dot
   pub matters : List (List Names)
@@ -38,11 +38,11 @@ in_row (Some row) place = unwrap_or (slice_get row place) (unwrap_or (slice_get 
 abbrev pub names_at : List (List Names) → ℕ → ℕ → Names
 names_at rows n place = in_row (slice_get rows n) place
 
--- what matters to a node after `taken` of its own steps
+-- the names that matter to a node after `taken` of its own steps
 abbrev pub matter : Tables → ℕ → ℕ → Names
 matter t n taken = names_at t.matters n taken
 
--- what matters in a message, by its number from 1
+-- the names that matter in a node's message of this number, counted from 1
 abbrev pub carried : Tables → ℕ → ℕ → Names
 carried t n number = names_at t.carries n (number - 1)
 
@@ -53,17 +53,19 @@ same_dot d e = (d.name == e.name) && (d.clock == e.clock)
 abbrev pub is_wanted : List Dot → Dot → Bool
 is_wanted dots d = list_any (λ e. same_dot e d) dots
 
--- names that the one has, the other has
+-- `other` has all names of `one`
 abbrev pub Within : Names → Names → Type 0
 Within one other = (q : ℕ) → set.contains one q ≡ true → set.contains other q ≡ true
 
--- what the tables need at a step: a message that it delivers has what matters there; and what it sends of what its node has
--- matters to the node
+-- the tables leave out nothing at a step: what matters to the node matters in a message that the step delivers; and
+-- what matters in the message that the step sends, and is taken from what the node has, matters to the node before the
+-- step
 pub record KeepsAt (t : Tables) (k : Kept) (x : Rank) : Type 0 where
   pub read : (sender number : ℕ) → k.step ≡ Deliver sender number → Within (matter t k.node 0) (carried t sender number)
   pub sent : is_delivery k.step ≡ false → (q : ℕ) → set.contains (carried t k.node x.number) q ≡ true → says k.step q ≡ true → set.contains (matter t k.node x.before) q ≡ true
 
--- the tables leave out nothing that matters
+-- the tables leave out nothing: what matters to a node after an own step matters before it, and no step leaves out
+-- anything
 pub record IsClosed (steps : List Kept) (ranks : List Rank) (t : Tables) : Type 0 where
   pub falls : (n p : ℕ) → Within (matter t n (suc p)) (matter t n p)
   pub keeps : (place : ℕ) (k : Kept) (x : Rank) → slice_get steps place ≡ Some k → slice_get ranks place ≡ Some x → KeepsAt t k x

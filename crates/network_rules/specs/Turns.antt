@@ -21,7 +21,7 @@ same_message (Some m) (Some n) = (n.0 == m.0) && (n.1 == m.1)
 abbrev pub is_of : Turn → Kept → Bool
 is_of t k = (k.node == t.node) && same_message t.delivers (delivery_of k.step)
 
--- how often the turn at a place came
+-- how many steps of the turn at a place came
 abbrev pub count_at : List ℕ → ℕ → ℕ
 count_at cs i = unwrap_or (slice_get cs i) 0
 
@@ -35,7 +35,7 @@ unfoldable pub missing : List Turn → List ℕ → ℕ → ℕ
 missing [] cs i = 0
 missing (t ∷ ts) cs i = (t.recorded - count_at cs i) + missing ts cs (suc i)
 
--- whether a turn is whole: all own steps of its node came, or its delivery came at most twice as often as it was recorded
+-- whether a turn is whole: all own steps came, or the delivery came at most twice as often as it was recorded
 abbrev pub is_whole_by : Option (ℕ × ℕ) → ℕ → ℕ → Bool
 is_whole_by None recorded count = nat_le recorded count
 is_whole_by (Some m) recorded count = nat_le (count - recorded) recorded
@@ -48,8 +48,8 @@ is_whole (t ∷ ts) cs i = is_whole_by t.delivers t.recorded (count_at cs i) && 
 abbrev pub is_end : List Turn → List ℕ → ℕ → ℕ → Bool
 is_end ts cs lost again = is_whole ts cs 0 && (nat_le (missing ts cs 0) lost && nat_le (extra ts cs 0) again)
 
--- whether this step is the next of its turn and may come: `recorded` steps of the turn were recorded, `before` of them stand
--- before it, `count` came, and `more` says whether one more may come again
+-- whether a step may come next in its turn: `recorded` steps of the turn were recorded, `before` of them stand before
+-- it, `count` steps of the turn came, and `more` says whether one more delivery may come a second time
 abbrev pub is_next_by : Option (ℕ × ℕ) → ℕ → ℕ → ℕ → Bool → Bool
 is_next_by None recorded before count more = before == count
 is_next_by (Some m) recorded before count more =
@@ -67,7 +67,7 @@ is_next_at ts counts again (Some x) = is_next_of (slice_get ts x.turn) x.before 
 abbrev pub is_next : List Turn → List Rank → List ℕ → ℕ → ℕ → Bool
 is_next ts ranks counts again place = is_next_at ts counts again (slice_get ranks place)
 
--- no message is delivered at the node any more
+-- nothing more is delivered at the node: no delivery may come a second time, and all that were recorded there came
 abbrev pub AreSpent : List Turn → List ℕ → ℕ → ℕ → Type 0
 AreSpent ts cs again node =
     (i : ℕ) (t : Turn) → slice_get ts i ≡ Some t → t.node ≡ node → is_some t.delivers ≡ true → (again ≡ 0) × (t.recorded ≤ count_at cs i)

@@ -89,16 +89,16 @@ impl<'a, B: Allocator> Cone<'a, B> {
         self.dots.as_slice()
     }
 
-    /// The names that matter to a node once it has taken `taken` of its own steps; all names if the cone has no row of
-    /// the node.
+    /// The names that matter to a node once it has taken `taken` of its own steps, as `names_at` finds them: all names
+    /// if the cone has no row of the node.
     pub fn matter(&self, node: u16, taken: usize) -> NameSet
         ensures { result ≡ matter self.now node taken }
     {
         names_at(self.matters.as_slice(), node as usize, taken)
     }
 
-    /// The names that matter in the node's message with this number, counted from 1; all names if the cone has no row
-    /// of the node.
+    /// The names that matter in the node's message with this number, counted from 1, as `names_at` finds them: all
+    /// names if the cone has no row of the node.
     pub fn carried(&self, node: u16, number: u64) -> NameSet
         ensures { result ≡ carried self.now node number }
     {

@@ -1,5 +1,6 @@
-//! The rules of runs of the network: which steps may come next, which can be taken first, which names matter where, and
-//! the key of a state, which decides what can follow it. A walk over such runs asks these rules.
+//! The rules of runs of the network: which steps may come next, with which of these a walk can go on alone and miss
+//! nothing, which names matter where, and the key of a state, which decides what can follow that state. A walk over
+//! such runs asks these rules.
 //!
 //! The crate stands on `network_core` (what holds of such runs) and on `bench_core` (clusters), and names the plain
 //! types of the crates below. The modules in reading order: `turn`, the turns to which steps belong; `next`, what may

@@ -25,7 +25,7 @@ fn with_if(names: NameSet, name: u16, wanted: bool) -> NameSet
     if wanted { names.with(name) } else { names }
 }
 
-/// The names that both have.
+/// The names that both sets have.
 pub(crate) fn common(one: NameSet, other: NameSet) -> NameSet
     ensures { (n : ℕ) → contains one n ≡ true → contains other n ≡ true → contains result n ≡ true }
 {

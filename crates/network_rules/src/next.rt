@@ -13,7 +13,7 @@ pub fn count_at(counts: &[usize], place: usize) -> usize
     counts.get(place).copied().unwrap_or(0)
 }
 
-/// Whether at most `most` steps came beyond the recorded ones. (Only deliveries can.)
+/// Whether at most `most` steps, of all turns together, came beyond the recorded ones. (Only deliveries can.)
 fn few_extra(turns: &[Turn], counts: &[usize], most: usize) -> bool
     ensures { result ≡ nat_le (extra turns.now counts.now 0) most }
 {
@@ -28,7 +28,8 @@ fn few_extra(turns: &[Turn], counts: &[usize], most: usize) -> bool
     true
 }
 
-/// Whether at most `most` of the recorded steps are missing. If all own steps came, the missing ones are deliveries.
+/// Whether at most `most` recorded steps, of all turns together, haven't come. If all own steps came, the missing ones
+/// are deliveries.
 fn few_missing(turns: &[Turn], counts: &[usize], most: usize) -> bool
     ensures { result ≡ nat_le (missing turns.now counts.now 0) most }
 {
@@ -83,10 +84,10 @@ pub fn is_end(turns: &[Turn], counts: &[usize], lost: usize, again: usize) -> bo
     is_whole(turns, counts) && few_missing(turns, counts, lost) && few_extra(turns, counts, again)
 }
 
-/// Whether a step of `turn` may come next, if `before` recorded steps of the turn stand before it and `count` steps of
+/// Whether a step of `turn` may come next that has `before` recorded steps of the turn before it, if `count` steps of
 /// the turn came. The first recorded step that hasn't come may. Once all recorded deliveries of the turn came, the
-/// first of them may come again, and stands for each of them, as all deliver the same message. But fewer than `again`
-/// deliveries of all turns must have come a second time, and not yet all of this turn.
+/// first of them may come again, and stands for each of them, as all deliver the same message; but only while not all
+/// of this turn, and fewer than `again` of all turns, came a second time.
 fn is_next_by(
     turns: &[Turn],
     counts: &[usize],

@@ -4,7 +4,7 @@ ghost use Rattle.std.specs.Prelude.{◌≡◌, ◌++◌, ◌∷◌, [], IfOk, On
 use node_core::Oom;
 use std::alloc::Allocator;
 
-/// Appends the place of a step to the path.
+/// Appends the place of a step, which is the run's next, to the path.
 pub fn extend<A: Allocator>(path: &mut Vec<usize, A>, place: usize) -> Result<(), Oom>
     ensures { OnOk result (path.new.items ≡ path.old.items ++ place ∷ []) }
 {

@@ -17,8 +17,8 @@ pub struct Turn {
     pub recorded: usize,
 }
 
-/// For a recorded step: the place of its turn, how many steps of that turn stand before it, and the number of the
-/// message that it sends. A step that sends none has the number of its node's next message.
+/// For a recorded step: the place of its turn among the turns, how many steps of that turn stand before the step, and
+/// the number of the message that the step sends. A step that sends none has the number of its node's next message.
 #[derive(Clone, Copy)]
 pub struct Rank {
     pub turn: usize,
@@ -51,7 +51,8 @@ fn same_message(one: Option<(u16, u64)>, other: Option<(u16, u64)>) -> bool
 }
 
 impl Turn {
-    /// Whether the step is one of this turn.
+    /// Whether the step is of this turn: the turn's node takes it, and it delivers the turn's message, or is no
+    /// delivery if the turn is one of own steps.
     pub fn has<A: Allocator>(&self, kept: &Kept<A>) -> bool
         ensures { result ≡ is_of self.now kept.now }
     {

@@ -4,8 +4,9 @@
 ghost use Rattle.order_core.specs.Laws.{BehindLaw, FoundRunLaw, MarksLaw, OrderOfLaw, OrderRunsLaw, SameOwnLaw};
 
 /// In a run no message comes before it is sent. Two runs in which each node did the same, in the same order, end in the
-/// same cluster. If one order of the nodes' steps runs, so does each other order that keeps each node's own order and
-/// in which no message comes before it is sent, and it ends in the same cluster.
+/// same cluster. If each step is accepted in one order of the nodes' steps, each is accepted in every other order that
+/// keeps each node's own order and in which no message comes before it is sent, and both orders end in the same
+/// cluster.
 pub fn order_law()
     ensures behind { BehindLaw }
     ensures order_runs { OrderRunsLaw }
@@ -13,7 +14,8 @@ pub fn order_law()
 {}
 
 /// If there is an order of the nodes' steps that keeps each node's own order and in which no message comes before it is
-/// sent, `order` finds one. The order found runs if any such order does, and ends in the same cluster.
+/// sent, `order` finds one. If each step is accepted in any such order, each is accepted in the order found, and both
+/// orders end in the same cluster.
 pub fn found_law()
     ensures order_of { OrderOfLaw }
     ensures found_run { FoundRunLaw }

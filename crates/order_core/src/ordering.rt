@@ -1,5 +1,5 @@
-//! Finds an order of steps: again and again it takes the first of the given steps that is the next one of its node and
-//! delivers no unsent message. If the given steps deliver no message before it is sent, their order stays.
+//! Finds an order of steps: again and again the search takes the first of the given steps that is the next one of its
+//! node and delivers no unsent message. If the given steps deliver no message before it is sent, their order stays.
 //!
 //! For each node the search keeps the place of the node's next step, and the number of messages that the node has sent.
 //! It chooses among the next steps of the nodes.
@@ -118,7 +118,7 @@ fn is_behind<A: Allocator>(alloc: A, marks: &[Mark]) -> Result<bool, Oom>
 }
 
 /// Copies of the marks, in an order that keeps the order of each node's own steps, and in which no message is delivered
-/// before it is sent; in the given order if that is such an order. `None` if there is none.
+/// before it is sent; in the given order if that is such an order. `None` if there is no such order.
 pub fn order<A: Allocator + Copy>(alloc: A, marks: &[Mark]) -> Result<Option<Vec<Mark, A>>, Oom>
     ensures { IfOk result (λ found. option_map (λ v. v.items) found ≡ order_of_marks marks.now) }
 {

@@ -9,7 +9,7 @@ use payload_core::Oom;
 use std::alloc::Allocator;
 use std::marker::Model;
 
-/// Changes of the same step and kind that lead to the same rows.
+/// Changes of the same step and kind that lead to the same rows, which are others than those of the recorded run.
 #[derive(Drop)]
 pub struct Difference<A: Allocator> {
     pub kind: Kind,
@@ -79,7 +79,7 @@ fn is_with<A: Allocator>(told: &Difference<A>, change: Change, rows: &[OnlineRow
         && are_same(told.rows.as_slice(), rows)
 }
 
-/// The place of the first difference to which the change belongs; `None` if there is none.
+/// The place of the first difference to which the change belongs (see `is_with`); `None` if it belongs to none.
 fn place_with<A: Allocator>(
     told: &[Difference<A>],
     change: Change,

@@ -17,7 +17,7 @@ use payload_core::{Oom, Word};
 use progress_core::{Tried, Watch};
 use std::alloc::Allocator;
 
-/// What would have made a difference.
+/// What `whatif` found: the rows as they are, how many changes it tried, and those that make a difference.
 #[derive(Drop)]
 pub struct Differences<A: Allocator> {
     /// The rows with the topic and key that the node shows at the end of the recorded run.

@@ -41,7 +41,7 @@ fn put_step<'a, A: Allocator, N: Allocator, B: Allocator>(
     }
 }
 
-/// The word for a kind, and a space.
+/// The word for a kind, and a space; the same word for `Before` and `Behind`.
 fn kind_word(kind: Kind) -> &'static str
     ensures { result.now ≡ kind_word kind }
 {
@@ -104,7 +104,7 @@ fn put_changed<'a, A: Allocator, N: Allocator, B: Allocator>(
 }
 
 /// Appends the line of a difference: `change N KIND NUMBER NODE VERB ..`; then, for a step that is moved or comes
-/// again, before or behind which step; then, if there are several such places, how many.
+/// again, the nearest step before or behind which it comes; then, if there are several such steps, how many.
 #[tactic(auto, unfolding(crate::specs::Texts::change_line))]
 fn put_line<'a, A: Allocator, N: Allocator, B: Allocator>(
     journal: &Journal<'a, B>,

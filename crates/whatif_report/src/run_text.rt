@@ -7,7 +7,7 @@ use payload_core::Oom;
 use std::alloc::Allocator;
 use transcript_core::{put_nodes_line, put_step_line};
 
-/// Appends a line for each step.
+/// Appends each step of the run as a line of a script.
 #[tactic(auto, unfolding(transcript_core::specs::Runs::step_lines))]
 fn put_steps<A: Allocator, N: Allocator, W: Allocator>(
     text: &mut String<A>,
