@@ -1,45 +1,14 @@
 //! What an outcome shows to the question.
 ghost use Rattle.std.specs.Prelude.{◌≡◌, ◌++◌, IfOk, OnOk, codes, length, option_map, string_bytes};
 ghost use Rattle.explore_network.specs.Questions.{plain, rows_in};
-ghost use Rattle.report_core.specs.Rows.{online_text, row_lines};
-ghost use Rattle.report_core.specs.Shown.{rows_in as listed_in};
+ghost use Rattle.report_core.specs.Rows.{row_lines};
 ghost use Rattle.explore_report.specs.Texts.{node_text, nodes_text, shown_text};
 
 use bench_core::{Cluster, Names, Node};
-use diff_core::{OnlineRow, online_list};
 use explore_network::{Question, rows_in};
 use payload_core::{Oom, Word};
-use report_core::{name_at, put_dots, put_rows};
+use report_core::{list_of, put_dots, put_online, put_rows};
 use std::alloc::Allocator;
-
-/// The node's online list; empty if there is no such node.
-fn listed<'a, B: Allocator>(
-    found: Option<&Node<'a, B>>,
-    alloc: &'a B,
-) -> Result<Vec<OnlineRow<&'a B>, &'a B>, Oom>
-    ensures { IfOk result (λ rows. rows.items ≡ listed_in (option_map (λ n. n.now) found.entry)) }
-{
-    match found {
-        Some(found) => online_list(alloc, found.replica()),
-        None => Ok(Vec::new(alloc)),
-    }
-}
-
-/// Appends the line `online NODE COUNT`, and the rows, each after `= `.
-#[tactic(auto, unfolding(report_core::specs::Rows::online_text))]
-fn put_online<A: Allocator, N: Allocator, R: Allocator>(
-    text: &mut String<A>,
-    names: &Names<N>,
-    node: u16,
-    rows: &[OnlineRow<R>],
-) -> Result<(), Oom>
-    ensures { OnOk result (string_bytes text.new ≡ string_bytes text.old ++ online_text names.now node rows.now) }
-{
-    let node = name_at(names, node);
-    let count = rows.len();
-    writeln!(text, "online {node} {count}")?;
-    put_rows(text, "= ", names, rows)
-}
 
 /// Appends what `show` and `dots` print of a node.
 #[tactic(auto, unfolding(crate::specs::Texts::node_text))]
@@ -52,7 +21,7 @@ fn put_node<'a, A: Allocator, N: Allocator, B: Allocator>(
 ) -> Result<(), Oom>
     ensures { OnOk result (string_bytes text.new ≡ string_bytes text.old ++ node_text names.now cluster.now node) }
 {
-    let rows = listed(cluster.node(node), alloc)?;
+    let rows = list_of(cluster.node(node), alloc)?;
     let put = put_online(text, names, node, rows.as_slice());
     // form: drop before exit
     drop(rows);

@@ -65,7 +65,7 @@ impl<A: Allocator> Cast<A> {
 
 /// `word`, or the empty text if `word` is a keyword. Keywords are reserved, and the empty text isn't a name.
 #[tactic(auto, unfolding(crate::specs::Grammar::unreserved))]
-fn unreserved(word: &str) -> &str
+pub fn unreserved(word: &str) -> &str
     ensures { result.now ≡ unreserved word.now }
 {
     if keyword_of(word).is_some() { "" } else { word }

@@ -8,16 +8,13 @@ ghost use Rattle.hint_core.specs.Choices.{no_nodes, is_console_verb, unknown_wor
 use crate::forms::form;
 use crate::hint::{Hint, about};
 use crate::line_words::{is_begun, is_console, is_node, word_at};
+use grammar_core::keyword_of;
 
 /// Whether the word is one of the six reserved ones, which can't be names.
-#[tactic(auto, unfolding(grammar_core::specs::Grammar::keyword_of))]
 pub(crate) fn is_reserved(word: &str) -> bool
     ensures { result ≡ is_reserved word.now }
 {
-    matches!(
-        word,
-        "nodes" | "consoles" | "show" | "dots" | "why" | "journal"
-    )
+    keyword_of(word).is_some()
 }
 
 /// The hint for the first line that isn't skipped, if it doesn't begin with `nodes`.

@@ -5,24 +5,13 @@ ghost use Rattle.report_core.specs.Rows.{name_at};
 ghost use Rattle.import_report.specs.Names.{AreNames, numbered_names, shown_names};
 
 use bench_core::{Names, NamesFault, TextSet};
-use grammar_core::words_of;
+use grammar_core::{unreserved, words_of};
 use payload_core::Oom;
 use std::alloc::Allocator;
 
 /// The nodes' names, by number, in a script that can't have the own names of all of them; spaces divide the names.
 pub const NUMBERED: &str =
     "n0 n1 n2 n3 n4 n5 n6 n7 n8 n9 n10 n11 n12 n13 n14 n15 n16 n17 n18 n19 n20 n21 n22 n23 n24 n25 n26 n27 n28 n29 n30 n31";
-
-/// `word`, or the empty text if `word` is a keyword such as `show`, which can't be a node's name.
-#[tactic(auto, unfolding(grammar_core::specs::Grammar::keyword_of, grammar_core::specs::Grammar::unreserved))]
-fn unreserved(word: &str) -> &str
-    ensures { result.now ≡ unreserved word.now }
-{
-    match word {
-        "nodes" | "consoles" | "show" | "dots" | "why" | "journal" => "",
-        _ => word,
-    }
-}
 
 /// The text with this number; empty if there is none.
 pub(crate) fn text_at<A: Allocator>(texts: &TextSet<A>, number: usize) -> &str

@@ -1,7 +1,7 @@
 //! What a bench shows: the online lists of its nodes.
 ghost use Rattle.std.specs.Prelude.{◌≡◌, ◌++◌, IfOk, OnOk, option_map, string_bytes};
 ghost use Rattle.report_core.specs.Rows.{online_text};
-ghost use Rattle.report_core.specs.Shown.{node_of, rows_at};
+ghost use Rattle.report_core.specs.Shown.{node_of, rows_at, rows_in};
 
 use crate::rows::put_online;
 use bench_core::{Bench, Node};
@@ -17,6 +17,19 @@ pub fn node<'x, 'a, B: Allocator>(bench: &'x Bench<'a, B>, number: u16) -> Optio
     bench.node(number)
 }
 
+/// The online list of the node; empty if there is none.
+pub fn list_of<'a, B: Allocator>(
+    found: Option<&Node<'a, B>>,
+    alloc: &'a B,
+) -> Result<Vec<OnlineRow<&'a B>, &'a B>, Oom>
+    ensures { IfOk result (λ rows. rows.items ≡ rows_in (option_map (λ n. n.now) found.entry)) }
+{
+    match found {
+        Some(found) => online_list(alloc, found.replica()),
+        None => Ok(Vec::new(alloc)),
+    }
+}
+
 /// The online list of the node with this number; empty if there is no such node.
 #[tactic(auto, unfolding(crate::specs::Shown::rows_at))]
 pub fn rows_at<'a, B: Allocator>(
@@ -26,10 +39,7 @@ pub fn rows_at<'a, B: Allocator>(
 ) -> Result<Vec<OnlineRow<&'a B>, &'a B>, Oom>
     ensures { IfOk result (λ rows. rows.items ≡ rows_at bench.now number) }
 {
-    match node(bench, number) {
-        Some(node) => online_list(alloc, node.replica()),
-        None => Ok(Vec::new(alloc)),
-    }
+    list_of(node(bench, number), alloc)
 }
 
 /// Appends the online list of a node: `online NODE COUNT` and its rows.
