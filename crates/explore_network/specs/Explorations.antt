@@ -26,7 +26,8 @@ pub record CanLeadTo (m : Machine) (lost again : ℕ) (run : List Kept) (end : C
 
 -- each run that the network could have made ends in a cluster that shows what an outcome shows
 abbrev pub MissesNothing : Machine → Question → ℕ → ℕ → List Outcome → Type 0
-MissesNothing m q lost again os = (run : List Kept) (end : Cluster) → CanLeadTo m lost again run end → IsAny (λ (o : Outcome). shown q o.cluster ≡ shown q end) os
+MissesNothing m q lost again os = (run : List Kept) (end : Cluster) → CanLeadTo m lost again run end →
+    IsAny (λ (o : Outcome). shown q o.cluster ≡ shown q end) os
 
 -- each outcome has a run beside it, by the places of its steps, that the network could have made
 abbrev pub InventsNothing : Machine → ℕ → ℕ → List Outcome → Type 0

@@ -26,7 +26,8 @@ pub record Outcome : Type 0 where
 
 abbrev pub outcome_code : Coded Outcome
 outcome_code =
-    code_by (List ℕ × Cluster) (coded× (coded_list coded_ℕ) (coded_list node_code)) (λ o. (o.run, o.cluster)) (λ p. record { run = p.0; cluster = p.1 }) (λ _. refl)
+    code_by (List ℕ × Cluster) (coded× (coded_list coded_ℕ) (coded_list node_code)) (λ o. (o.run, o.cluster))
+    (λ p. record { run = p.0; cluster = p.1 }) (λ _. refl)
 
 abbrev pub with_step : Option Kept → List Kept → List Kept
 with_step None ks = ks
@@ -62,7 +63,8 @@ IsTold p q os w = IsSettled (walk_of p (told_by q os)) w
 -- the walk can take step k at once: if the beginning with k is settled, so is w, whatever outcomes were found
 abbrev pub CanBeFirst : Plan → List Kept → Cluster → Kept → Type 0
 CanBeFirst p w c k =
-    (told : Cluster → Bool) (d : Cluster) → IsWalk (walk_of p told) → step c k.node k.step ≡ Ok d → IsSettled (walk_of p told) (w ++ k ∷ []) → IsSettled (walk_of p told) w
+    (told : Cluster → Bool) (d : Cluster) → IsWalk (walk_of p told) → step c k.node k.step ≡ Ok d →
+    IsSettled (walk_of p told) (w ++ k ∷ []) → IsSettled (walk_of p told) w
 
 -- whether the step at a place is the next of its turn and may come
 abbrev pub next_in : Plan → List ℕ → ℕ → Bool
@@ -129,7 +131,8 @@ pub record GoesThrough (p : Plan) (q : Question) (w : List Kept) (c : Cluster) (
   pub taken : did ≡ true → (k : Kept) × ((d : Cluster) × ((slice_get p.steps place ≡ Some k) × (step c k.node k.step ≡ Ok d)))
 
 -- what each call of the walk needs: a plan, what the walk keeps, where it stands, and how many steps may still come
-pub record IsReady (p : Plan) (q : Question) (path : List ℕ) (c : Cluster) (known : List (List ℕ)) (os : List Outcome) (counts : List ℕ) (rest : ℕ) : Type 0 where
+pub record IsReady (p : Plan) (q : Question) (path : List ℕ) (c : Cluster) (known : List (List ℕ)) (os : List Outcome)
+    (counts : List ℕ) (rest : ℕ) : Type 0 where
   pub plan : IsPlan p q
   pub keeps : Keeps p q known os
   pub at : IsAt p (steps_at p.steps path) counts c
@@ -152,7 +155,8 @@ pub record Went (p : Plan) (q : Question) (os : List Outcome) (known : List (Lis
 -- were found
 abbrev pub GoesThroughAt : Plan → Question → List ℕ → Cluster → List ℕ → List Outcome → ℕ → Type 0
 GoesThroughAt p q path c counts os place =
-    (k : Kept) (d : Cluster) → next_in p counts place ≡ true → slice_get p.steps place ≡ Some k → step c k.node k.step ≡ Ok d → IsTold p q os (steps_at p.steps path ++ k ∷ [])
+    (k : Kept) (d : Cluster) → next_in p counts place ≡ true → slice_get p.steps place ≡ Some k → step c k.node k.step ≡ Ok d →
+    IsTold p q os (steps_at p.steps path ++ k ∷ [])
 
 -- if the step at a place may come next and is accepted, all outcomes of runs that begin with the path and this step
 -- were found: so for each place

@@ -33,7 +33,8 @@ AreNodesOf t found (item d ds) names = NodeIn t found (as_str d) (λ more. AreNo
 abbrev pub IsStepOf : AllTables → log.Event → Operation → Type 0
 IsStepOf t (log.join tracked) step = (p : Presence) × (step ≡ Join p) × IsPresenceOf t tracked p
 IsStepOf t (log.update tracked) step = (p : Presence) × (step ≡ Update p) × IsPresenceOf t tracked p
-IsStepOf t (log.leave pid topic key) step = (n : ℕ) × (v : List ℕ) × (w : List ℕ) × (step ≡ Leave n v w) × IsNumberOf t.pids pid n × IsWordOf t.longs topic v × IsWordOf t.longs key w
+IsStepOf t (log.leave pid topic key) step = (n : ℕ) × (v : List ℕ) × (w : List ℕ) × (step ≡ Leave n v w) × IsNumberOf t.pids pid n ×
+    IsWordOf t.longs topic v × IsWordOf t.longs key w
 IsStepOf t (log.leave_all pid) step = (n : ℕ) × (step ≡ LeaveAll n) × IsNumberOf t.pids pid n
 IsStepOf t (log.broadcast message) step = step ≡ Broadcast
 IsStepOf t (log.request message) step = step ≡ Request

@@ -36,4 +36,5 @@ pub record IsShownOf (lenient : Bool) (limits : Limits) (bytes : List ℕ) (benc
 
 -- no `<` stands in the keys
 abbrev pub PlainLaw : Type 0
-PlainLaw = (lenient : Bool) (limits : Limits) (bytes : List ℕ) (bench : Machine) (keys left_out : List ℕ) → IsShownOf lenient limits bytes bench keys left_out → IsPlain keys
+PlainLaw = (lenient : Bool) (limits : Limits) (bytes : List ℕ) (bench : Machine) (keys left_out : List ℕ) →
+    IsShownOf lenient limits bytes bench keys left_out → IsPlain keys

@@ -48,7 +48,8 @@ unsent_text names note = place_text names note ++ codes " no message\n"
 
 -- for what an event asks of the bench: whether lists agree, one answer for each list, and the text about it
 abbrev pub IsAskedChecked : Texts → Machine → Note → Asked → List Bool → List ℕ → Type 0
-IsAskedChecked names m note list agreements text = (agrees : Bool) × (agreements ≡ agrees ∷ []) × IsListChecked names note (rows_at m note.logged.node) agrees text
+IsAskedChecked names m note list agreements text = (agrees : Bool) × (agreements ≡ agrees ∷ []) ×
+    IsListChecked names note (rows_at m note.logged.node) agrees text
 IsAskedChecked names m note nothing agreements text = (agreements ≡ []) × (text ≡ unsent_text names note)
 IsAskedChecked names m note (step operation) agreements text = (agreements ≡ []) × (text ≡ refusal_text names note (reply_of m note.logged.node (Do operation)))
 
@@ -74,6 +75,7 @@ pub record IsCheckOf (lenient : Bool) (limits : Limits) (bytes text : List ℕ) 
   pub import : IsImportOf lenient bytes tables notes order left_out
   pub agreements : List Bool
   pub told : List ℕ
-  pub checked : AreChecked (shown_names tables.nodes) (opening limits (shown_names tables.nodes) (length tables.messages)) (in_order notes order) agreements told
+  pub checked : AreChecked (shown_names tables.nodes) (opening limits (shown_names tables.nodes) (length tables.messages))
+      (in_order notes order) agreements told
   pub text_is : text ≡ told ++ agree_line agreements
   pub differs_is : differs ≡ not (length told == 0)

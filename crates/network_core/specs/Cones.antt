@@ -44,7 +44,8 @@ pub record IsCone (j : List Kept) (t : Cone) : Type 0 where
   -- what matters to a node after a step other than a delivery mattered to it before that step
   pub before : (n p : ℕ) (d : Dot) → t.at n (suc p) d ≡ true → t.at n p d ≡ true
   -- what matters to a node before its first step matters in each message of which j has a delivery at the node
-  pub read : AllByRecursion (λ (k : Kept). (sender number : ℕ) → k.step ≡ Deliver sender number → (d : Dot) → t.at k.node 0 d ≡ true → t.of sender number d ≡ true) j
+  pub read : AllByRecursion (λ (k : Kept). (sender number : ℕ) → k.step ≡ Deliver sender number → (d : Dot) → t.at k.node 0 d ≡ true →
+      t.of sender number d ≡ true) j
   -- what matters in the message of an extract or an answer, and can come from what its node has, matters to the node
   -- before that step, or is the node's own
   pub sent : (n : ℕ) (first rest : List Kept) (k : Kept) → ordered j n ≡ first ++ k ∷ rest → (d : Dot) → t.of n (sends_in first + 1) d ≡ true →

@@ -43,8 +43,10 @@ MayBeFirst n k = (k.node ≢ n) ⊎ ((k.node ≡ n) × ((sender : ℕ) × ((mess
 -- run still ends in the same cluster, unless a step is then refused as `EntriesFull`
 abbrev pub EagerLaw : Type 0
 EagerLaw =
-    (l : NodeLimits) (count number node : ℕ) (first before rest : List Kept) (s : Operation) → IsEasy l count first node s → AllByRecursion (MayBeFirst node) before →
-    ((xs ys : List Kept) (k : Kept) → before ≡ xs ++ k ∷ ys → runs l count ((first ++ xs) ++ step_of number node s ∷ k ∷ []) ≢ Err EntriesFull) → (c : Cluster) →
+    (l : NodeLimits) (count number node : ℕ) (first before rest : List Kept) (s : Operation) → IsEasy l count first node s →
+    AllByRecursion (MayBeFirst node) before →
+    ((xs ys : List Kept) (k : Kept) → before ≡ xs ++ k ∷ ys →
+    runs l count ((first ++ xs) ++ step_of number node s ∷ k ∷ []) ≢ Err EntriesFull) → (c : Cluster) →
     runs l count (first ++ (before ++ step_of number node s ∷ rest)) ≡ Ok c → runs l count (first ++ step_of number node s ∷ (before ++ rest)) ≡ Ok c
 
 -- a run of the network that begins with these steps leads to this cluster

@@ -38,7 +38,8 @@ sent_of l n first = own_sent (opening n l) (ordered first n)
 pub record StandAlike (t : Cares) (l : NodeLimits) (first : List Kept) (c d : Cluster) : Type 0 where
   pub nodes : (n : ℕ) (x y : Node) → slice_get c n ≡ Some x → slice_get d n ≡ Some y → (q : Dot) → t.at n q ≡ true → (q.name == n) ≡ false →
       standing y.replica.store q ≡ standing x.replica.store q
-  pub messages : (n i : ℕ) (x y : Node) (m k : Message) → slice_get c n ≡ Some x → slice_get d n ≡ Some y → numbered x.outbox i ≡ Some m → numbered y.outbox i ≡ Some k →
+  pub messages : (n i : ℕ) (x y : Node) (m k : Message) → slice_get c n ≡ Some x → slice_get d n ≡ Some y → numbered x.outbox i ≡ Some m →
+      numbered y.outbox i ≡ Some k →
       numbered (sent_of l n first) i ≡ Some None → (q : Dot) → t.of n i q ≡ true → standing (store_of k) q ≡ standing (store_of m) q
 
 -- if each node took the same steps, deliveries apart, clusters in which the dots that matter stand alike are alike

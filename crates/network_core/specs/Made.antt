@@ -68,5 +68,6 @@ WantsMade l j wanted topic key = (d : Dot) (p : Presence) → IsMade l j d p →
 -- those of all entries that a node has under them at the end of a run of the network
 abbrev pub WantedLaw : Type 0
 WantedLaw =
-    (l : NodeLimits) (count : ℕ) (j r : List Kept) (lost again n : ℕ) (wanted : Dot → Bool) (topic key : List ℕ) (c : Cluster) (x : Node) → WantsMade l j wanted topic key →
+    (l : NodeLimits) (count : ℕ) (j r : List Kept) (lost again n : ℕ) (wanted : Dot → Bool) (topic key : List ℕ) (c : Cluster) (x : Node) →
+    WantsMade l j wanted topic key →
     IsNetworkRun j lost again r → runs l count r ≡ Ok c → slice_get c n ≡ Some x → AreWanted wanted topic key x.replica

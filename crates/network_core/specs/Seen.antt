@@ -33,5 +33,6 @@ WantsSeen l j count wanted = (d : Dot) → IsGiven l count j d → wanted d ≡ 
 abbrev pub SameReplicaLaw : Type 0
 SameReplicaLaw =
     (l : NodeLimits) (count : ℕ) (j r s : List Kept) (lost again n : ℕ) (wanted : Dot → Bool) (c d : Cluster) (x y : Node) → WantsSeen l j count wanted →
-    IsNetworkRun j lost again r → IsNetworkRun j lost again s → runs l count r ≡ Ok c → runs l count s ≡ Ok d → slice_get c n ≡ Some x → slice_get d n ≡ Some y →
+    IsNetworkRun j lost again r → IsNetworkRun j lost again s → runs l count r ≡ Ok c → runs l count s ≡ Ok d → slice_get c n ≡ Some x →
+    slice_get d n ≡ Some y →
     ReplicaAlike wanted x.replica y.replica → y.replica ≡ x.replica

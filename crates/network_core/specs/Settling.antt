@@ -52,12 +52,14 @@ IsNext g w k = (later : List Kept) × (ordered g.recorded k.node ≡ ordered w k
 
 -- nothing more is delivered at node n in any run of the network that begins with w
 abbrev pub IsQuiet : Walk → List Kept → ℕ → Type 0
-IsQuiet g w n = (rest : List Kept) → IsNetworkRun g.recorded g.lost g.again (w ++ rest) → AllByRecursion (λ (x : Kept). x.node ≡ n → is_delivery x.step ≡ false) rest
+IsQuiet g w n = (rest : List Kept) → IsNetworkRun g.recorded g.lost g.again (w ++ rest) →
+    AllByRecursion (λ (x : Kept). x.node ≡ n → is_delivery x.step ≡ false) rest
 
 -- when a beginning w is settled: each field is a case
 pub record SettleLaw : Type 0 where
   -- a node's next step k is easy, and w with k is settled
-  pub easy : (g : Walk) (w : List Kept) (k : Kept) → IsWalk g → IsNext g w k → IsEasy g.limits g.count w k.node k.step → IsSettled g (w ++ k ∷ []) → IsSettled g w
+  pub easy : (g : Walk) (w : List Kept) (k : Kept) → IsWalk g → IsNext g w k → IsEasy g.limits g.count w k.node k.step →
+      IsSettled g (w ++ k ∷ []) → IsSettled g w
   -- nothing more is delivered at a node, its next step k is accepted, and w with k is settled
   pub alone : (g : Walk) (w : List Kept) (k : Kept) (c d : Cluster) → IsWalk g → IsNext g w k → IsQuiet g w k.node → Ran g w c → step c k.node k.step ≡ Ok d →
       IsSettled g (w ++ k ∷ []) → IsSettled g w
@@ -67,13 +69,15 @@ pub record SettleLaw : Type 0 where
       step c node (Deliver sender number) ≡ Ok d → how_many (is_of_kind node sender number) w < how_many (is_of_kind node sender number) g.recorded →
       IsSettled g (w ++ delivery i node sender number ∷ []) → IsSettled g w
   -- another beginning v is settled, after which the same is left to do and the dots that matter stand alike
-  pub same : (g : Walk) (w v : List Kept) (c d : Cluster) → IsWalk g → Ran g w c → Ran g v d → LeaveSame w v → StandAlike (cares g.cone w) g.limits w c d → IsSettled g v → IsSettled g w
+  pub same : (g : Walk) (w v : List Kept) (c d : Cluster) → IsWalk g → Ran g w c → Ran g v d → LeaveSame w v →
+      StandAlike (cares g.cone w) g.limits w c d → IsSettled g v → IsSettled g w
   -- a beginning that ends with a delivery is settled with one number at that step if it is with another
   pub renumbered : (g : Walk) (w : List Kept) (i j node sender number : ℕ) (c d : Cluster) → IsWalk g → Ran g w c → step c node (Deliver sender number) ≡ Ok d →
       IsSettled g (w ++ delivery i node sender number ∷ []) → IsSettled g (w ++ delivery j node sender number ∷ [])
   -- w with each accepted step that can come next is settled; and the cluster counts as found, if a run may end here
   pub all : (g : Walk) (w : List Kept) (c : Cluster) → Ran g w c → (IsNetworkRun g.recorded g.lost g.again w → g.told c ≡ true) →
-      ((k : Kept) (d : Cluster) (rest : List Kept) → IsNetworkRun g.recorded g.lost g.again (w ++ k ∷ rest) → step c k.node k.step ≡ Ok d → IsSettled g (w ++ k ∷ [])) → IsSettled g w
+      ((k : Kept) (d : Cluster) (rest : List Kept) → IsNetworkRun g.recorded g.lost g.again (w ++ k ∷ rest) → step c k.node k.step ≡ Ok d →
+      IsSettled g (w ++ k ∷ [])) → IsSettled g w
 
 -- a run of the network has at most as many steps as the recorded run, and one more for each delivery that may come
 -- again
@@ -100,4 +104,5 @@ pub record MayCome (g : Walk) (w : List Kept) (n sender number : ℕ) : Type 0 w
 -- a delivery that comes next in a run of the network keeps to `MayCome`
 abbrev pub NextDeliveryLaw : Type 0
 NextDeliveryLaw =
-    (g : Walk) (w rest : List Kept) (i n sender number : ℕ) → IsNetworkRun g.recorded g.lost g.again (w ++ delivery i n sender number ∷ rest) → MayCome g w n sender number
+    (g : Walk) (w rest : List Kept) (i n sender number : ℕ) →
+    IsNetworkRun g.recorded g.lost g.again (w ++ delivery i n sender number ∷ rest) → MayCome g w n sender number

@@ -62,7 +62,8 @@ Within one other = (q : ℕ) → set.contains one q ≡ true → set.contains ot
 -- step
 pub record KeepsAt (t : Tables) (k : Kept) (x : Rank) : Type 0 where
   pub read : (sender number : ℕ) → k.step ≡ Deliver sender number → Within (matter t k.node 0) (carried t sender number)
-  pub sent : is_delivery k.step ≡ false → (q : ℕ) → set.contains (carried t k.node x.number) q ≡ true → says k.step q ≡ true → set.contains (matter t k.node x.before) q ≡ true
+  pub sent : is_delivery k.step ≡ false → (q : ℕ) → set.contains (carried t k.node x.number) q ≡ true → says k.step q ≡ true →
+      set.contains (matter t k.node x.before) q ≡ true
 
 -- the tables leave out nothing: what matters to a node after an own step matters before it, and no step leaves out
 -- anything

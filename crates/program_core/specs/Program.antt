@@ -152,7 +152,8 @@ RefusesSession input fault = ⊥
 
 -- a script or a session
 
--- whether the input should be a session: whether its first byte that isn't JSON's space is `{`; this looks at no more of it than a session may have, and one byte more
+-- whether the input should be a session: whether its first byte that isn't JSON's space is `{`; this looks at no more of the input
+-- than a session may have, and one byte
 unfoldable pub is_for_session : List ℕ → Bool
 is_for_session input = begins_object (take 67108865 input)
 

@@ -306,7 +306,8 @@ pub fn import_events<B: Allocator, R: Read, W: Write, E: Write, L: Ledger>(
     ensures memory { IfErr result TellsMemory }
     ensures failed { FailsAs result steps.old steps.new }
     ensures aside { TellsMissing check lines lenient form limits (R.remaining reader.old) (E.contents errors.old) (E.contents errors.new) }
-    ensures told { IsEarly result ⊎ TellsMade check lines lenient form limits (R.remaining reader.old) lost.new (E.contents errors.old) (E.contents errors.new) }
+    ensures told { IsEarly result ⊎
+        TellsMade check lines lenient form limits (R.remaining reader.old) lost.new (E.contents errors.old) (E.contents errors.new) }
 {
     let input = read_events(alloc, reader, steps)?;
     let made = make(

@@ -12,7 +12,8 @@ tried_line work = codes "presence_bench: " ++ decimal work.done ++ codes " of " 
 -- `presence_bench: S states, O outcomes, L steps left`
 unfoldable pub walked_line : Walked → List ℕ
 walked_line work =
-    codes "presence_bench: " ++ decimal work.states ++ codes " states, " ++ decimal work.outcomes ++ codes " outcomes, " ++ decimal work.left ++ codes " steps left\n"
+    codes "presence_bench: " ++ decimal work.states ++ codes " states, " ++ decimal work.outcomes ++ codes " outcomes, " ++
+    decimal work.left ++ codes " steps left\n"
 
 -- a line went out, or a beginning of it
 abbrev pub Puts : List ℕ → Bool → Option (List ℕ) → Option (List ℕ) → Type 0

@@ -54,7 +54,8 @@ pub record HasOrder (ks : List Kept) (c : Change) : Type 0 where
 
 -- with each change of a difference the run has an order
 abbrev pub ToldRunsLaw : Type 0
-ToldRunsLaw = (m : Machine) (q : Question) (told : List Difference) → AreExactly m q told → (d : Difference) → Contains told d → HasOrder m.state.remaining (nearest_change d)
+ToldRunsLaw = (m : Machine) (q : Question) (told : List Difference) → AreExactly m q told → (d : Difference) → Contains told d →
+    HasOrder m.state.remaining (nearest_change d)
 
 -- the list of changes has those that the run has
 abbrev pub AreAllChanges : List Kept → List Change → Type 0
