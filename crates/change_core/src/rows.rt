@@ -19,7 +19,7 @@ fn is_of<A: Allocator>(row: &OnlineRow<A>, topic: &Word<A>, key: &Word<A>) -> bo
 }
 
 /// Copies of the rows with this topic and key, in the order of `rows`.
-fn rows_of<A: Allocator + Copy>(
+pub fn rows_of<A: Allocator + Copy>(
     alloc: A,
     rows: &[OnlineRow<A>],
     topic: &Word<A>,

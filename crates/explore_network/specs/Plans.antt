@@ -51,8 +51,17 @@ plan_code =
     (coded× node_limits_code (coded× coded_ℕ (coded× (coded_list kept_code)
     (coded× coded_ℕ (coded× coded_ℕ (coded× coded_ℕ (coded× (coded_list turn_code) (coded× (coded_list rank_code) tables_code))))))))
     (λ p. (p.limits, (p.count, (p.steps, (p.lost, (p.again, (p.most, (p.turns, (p.ranks, p.tables)))))))))
-    (λ t. record { limits = t.0; count = t.1.0; steps = t.1.1.0; lost = t.1.1.1.0; again = t.1.1.1.1.0; most = t.1.1.1.1.1.0;
-    turns = t.1.1.1.1.1.1.0; ranks = t.1.1.1.1.1.1.1.0; tables = t.1.1.1.1.1.1.1.1 }) (λ _. refl)
+    (λ t. record {
+      limits = t.0;
+      count = t.1.0;
+      steps = t.1.1.0;
+      lost = t.1.1.1.0;
+      again = t.1.1.1.1.0;
+      most = t.1.1.1.1.1.0;
+      turns = t.1.1.1.1.1.1.0;
+      ranks = t.1.1.1.1.1.1.1.0;
+      tables = t.1.1.1.1.1.1.1.1;
+    }) (λ _. refl)
 
 -- which dots matter where, of those that are asked for: at a node those of the names that matter there, but for the
 -- node's own; and in a message those of the names that matter in it

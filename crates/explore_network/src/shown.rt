@@ -1,42 +1,15 @@
 //! Whether two clusters show the same to a question.
-ghost use Rattle.std.specs.Prelude.{◌≡◌, ◌↔◌, ◌≤◌, IfOk, IsTrue, filter, length, map, option_map, slice_get};
-ghost use Rattle.network_core.specs.Rows.{is_row_of};
+ghost use Rattle.std.specs.Prelude.{◌≡◌, ◌↔◌, ◌≤◌, IfOk, IsTrue, length, map, option_map, slice_get};
 ghost use Rattle.explore_network.specs.Questions.{plain, replicas_in, rows_in, shown};
 ghost use Rattle.explore_network.specs.SameShown.{same_rows};
 
 use crate::question::Question;
 use bench_core::{Cluster, Node};
+use change_core::{Rows, rows_of};
 use diff_core::{OnlineRow, online_list};
 use node_core::Oom;
 use payload_core::Word;
 use std::alloc::Allocator;
-
-type Rows<A> = Vec<OnlineRow<A>, A>;
-
-/// Whether the row has this topic and key.
-fn is_of<A: Allocator>(row: &OnlineRow<A>, topic: &Word<A>, key: &Word<A>) -> bool
-    ensures { result ≡ is_row_of topic.now key.now row.now }
-{
-    row.topic == *topic && row.key == *key
-}
-
-/// Copies of the rows with this topic and key, in the order of `rows`.
-fn rows_of<A: Allocator + Copy>(
-    alloc: A,
-    rows: &[OnlineRow<A>],
-    topic: &Word<A>,
-    key: &Word<A>,
-) -> Result<Rows<A>, Oom>
-    ensures { IfOk result (λ found. found.items ≡ filter (is_row_of topic.now key.now) rows.now) }
-{
-    let mut found = Vec::new(alloc);
-    for row in rows {
-        if is_of(row, topic, key) {
-            found.push(row.try_copy()?)?;
-        }
-    }
-    Ok(found)
-}
 
 /// The rows of the node's online list with this topic and key; none if there is no such node.
 pub fn rows_in<'a, B: Allocator>(

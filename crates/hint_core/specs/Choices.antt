@@ -72,9 +72,9 @@ is_console_verb verb = bytes_eq verb (codes "undo") || bytes_eq verb (codes "bac
 unfoldable pub unknown_word : Texts → Texts → Option Hint
 unknown_word lines words =
     if is_node lines (word_at words 0) || is_console lines (word_at words 0) then
-      about [] (word_at words 1) (codes " is no verb; `presence_bench --help` has them all")
+    about [] (word_at words 1) (codes " is no verb; `presence_bench --help` has them all")
     else (if is_console_verb (word_at words 1) && not (is_begun (codes "consoles") lines) then
-      about (codes "nobody is named ") (word_at words 0) (codes "; a line `consoles NAME ..` names consoles")
+    about (codes "nobody is named ") (word_at words 0) (codes "; a line `consoles NAME ..` names consoles")
     else about (codes "nobody is named ") (word_at words 0) (codes "; the line `nodes` names the nodes"))
 
 -- WrongCount: the form of the line
