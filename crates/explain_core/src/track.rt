@@ -170,7 +170,8 @@ fn is_told<'a, B: Allocator>(asked: &Bench<'a, B>, node: u16, message: u64, dot:
     !standing_sent(asked, node, message, dot).is_same(Standing::Unseen)
 }
 
-/// Whether the step, which `node` took, may change without a delivery how a dot of this name stands at `node`.
+/// Whether this step of `node` may change how a dot of this name stands at `node`; false for a delivery, which `reaches`
+/// looks at by itself.
 fn is_changed<A: Allocator>(step: &Step<A>, node: u16, name: u16) -> bool
     ensures { result ≡ is_changed (plain step.now) node name }
 {

@@ -37,7 +37,8 @@ fn put_nodes<A: Allocator, N: Allocator>(text: &mut String<A>, names: &Names<N>)
     Ok(text.push_str("\n")?)
 }
 
-/// Plays the events in this order, and appends their lines. `order` has their places in `notes`.
+/// Plays the events in this order, and appends their lines. `order` has their places in `notes`; `told` and `numbers` are
+/// as in `put_lines` and `play`.
 #[tactic(auto, unfolding(crate::specs::Events::events_text))]
 fn put_events<'a, B: Allocator>(
     text: &mut String<&'a B>,

@@ -171,7 +171,8 @@ fn put_turn<A: Allocator>(path: &mut String<A>, nodes: u32, turn: Turn) -> Resul
     Ok(write!(path, "V{down}")?)
 }
 
-/// Appends a line to where row `last` begins, if `listing`, that is, if the node still lists what is asked about.
+/// Appends to the path a line down to where row `last` begins, if `listing`, that is, if the node still lists what is
+/// asked about.
 fn put_end<A: Allocator>(path: &mut String<A>, listing: bool, last: u32) -> Result<(), Oom>
     ensures { OnOk result (string_bytes path.new ≡ string_bytes path.old ++ end_path listing last) }
 {

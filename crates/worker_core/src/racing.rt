@@ -1,4 +1,4 @@
-//! `race`: several actors ask lines of one bench, each through its own worker.
+//! `race`: asks one bench the lines of several actors, each actor's lines through a worker of its own.
 ghost use Rattle.std.specs.Prelude.{◌≡◌, IfOk, IfErr, Err, MatchOption, drop, length, map, vec_len};
 ghost use Rattle.bench_core.specs.Acts.{calls_of};
 ghost use Rattle.bench_core.specs.Benches.{IsMachine};
