@@ -62,7 +62,7 @@ fn note<'a, B: Allocator>(
     Ok(())
 }
 
-/// The turns of own steps, one for each of the first `count` nodes.
+/// For each of the first `count` nodes the turn of its own steps.
 fn own_turns<'a, B: Allocator>(
     steps: &[Kept<&'a B>],
     count: u16,

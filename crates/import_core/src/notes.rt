@@ -119,6 +119,7 @@ fn note_of_line<A: Allocator + Copy>(
     Ok(Some(note))
 }
 
+/// Appends the note. A refused push becomes `Oom`, which `add_line` passes on as a `FaultKind`.
 fn add<A: Allocator + Copy>(notes: &mut Vec<Noted<A>, A>, note: Noted<A>) -> Result<(), Oom>
     ensures { OnOk result (notes.new.items ≡ notes.old.items ++ note ∷ []) }
 {

@@ -281,7 +281,7 @@ fn keeps_four<'a>(bench: &Bench<'a, Heap>, heap: &'a Heap, rt: &impl Abort) {
     holds!(rt, enough.is_ok_and(|enough| enough.states == 4));
 }
 
-/// Explores `UP_LATE` like `keeps_four`.
+/// Plays `UP_LATE`; `keeps_four` explores it.
 fn few_states_are_kept<'a>(heap: &'a Heap, rt: &impl Abort) {
     let bench = played(UP_LATE, Limits::usual(), heap, rt);
     keeps_four(&bench, heap, rt);
@@ -416,7 +416,7 @@ fn tells_seven<'a>(bench: &Bench<'a, Heap>, heap: &'a Heap, rt: &impl Abort) {
     holds!(rt, watch.calls == 7 && watch.states == 2 && !watch.falls);
 }
 
-/// Explores `UP_LATE` like `tells_seven`.
+/// Plays `UP_LATE`; `tells_seven` explores it, and looks at what the watcher heard.
 fn walk_is_watched<'a>(heap: &'a Heap, rt: &impl Abort) {
     let bench = played(UP_LATE, Limits::usual(), heap, rt);
     tells_seven(&bench, heap, rt);

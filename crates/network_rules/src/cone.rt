@@ -162,7 +162,8 @@ impl<'a, B: Allocator> Cone<'a, B> {
         true
     }
 
-    /// Whether the cone leaves out no name that matters: `falls` and `keeps_all` are true of it.
+    /// Whether each name that matters at some place also matters wherever its dots can come from (`falls` and
+    /// `keeps_all`). Whether what is asked about matters at the end is looked at by itself (`is_asked_at`).
     fn is_closed<A: Allocator>(&self, steps: &[Kept<A>], ranks: &[Rank]) -> bool
         ensures { IsTrue result → IsClosed steps.now ranks.now self.now }
     {

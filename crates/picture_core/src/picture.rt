@@ -202,7 +202,7 @@ fn put_opening_of<A: Allocator>(
     )?)
 }
 
-/// Appends the beginning of a picture of this size, which shows the plane from 0 down.
+/// Appends the start tag of a picture of this width and height, whose `viewBox` begins at the top left corner (0, 0).
 fn put_opening<'a, A: Allocator, B: Allocator>(
     text: &mut String<A>,
     width: u64,

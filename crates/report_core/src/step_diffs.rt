@@ -75,8 +75,8 @@ pub fn step_diff<'a, B: Allocator>(
     inverse_diff(inverse, node, alloc)
 }
 
-/// Appends to the text, whose end is still in `line`, the rows that the call of `change` took out of the online list of
-/// its replica, each after `- `. `after` is the replica after that call.
+/// Appends to the text, whose end is still in `line`, the rows that left the replica's online list in the call that gave
+/// `change`, each after `- `. `after` is the replica after that call.
 fn put_taken_rows<'a, B: Allocator>(
     text: &mut String<&'a B>,
     line: &mut Line,
