@@ -32,7 +32,7 @@ fn bytes_of<'a>(
 }
 
 /// How many bytes a copy of the first node asks for.
-fn bytes_of_copy<'a>(bench: &Bench<'a, Heap>, heap: &'a Heap, rt: &impl Abort) -> u64 {
+fn bytes_of_copy<'a>(bench: &mut Bench<'a, Heap>, heap: &'a Heap, rt: &impl Abort) -> u64 {
     let node = bench.node(0).expect(rt, "a node");
     heap.refuse_none();
     let is_copied = node.try_copy().err().is_none();
@@ -46,7 +46,7 @@ fn plays<'a>(script: &str, heap: &'a Heap, rt: &impl Abort) {
     let calls = calls_of(JOIN_AND_UNDO, heap, rt);
     let mut bench = played(script, Limits::usual(), heap, rt);
     let bytes = bytes_of(&mut bench, &calls, heap, rt);
-    let bytes_of_copy = bytes_of_copy(&bench, heap, rt);
+    let bytes_of_copy = bytes_of_copy(&mut bench, heap, rt);
     drop(bench);
     drop(calls);
     // form: saturating spares a requirement

@@ -303,7 +303,7 @@ fn keeps<'a>(bench: &Bench<'a, Heap>, number: u64, told: Told) -> bool {
 
 /// The bench must keep what `KEPT` says of each step of the first node, and must have no other steps but the first
 /// `FIRST`.
-fn keeps_each<'a>(bench: &Bench<'a, Heap>, rt: &impl Abort) {
+fn keeps_each<'a>(bench: &mut Bench<'a, Heap>, rt: &impl Abort) {
     for (place, told) in KEPT.iter().enumerate() {
         let number = (place + FIRST + 1) as u64;
         holds_at(rt, keeps(bench, number, *told), number);
@@ -312,8 +312,8 @@ fn keeps_each<'a>(bench: &Bench<'a, Heap>, rt: &impl Abort) {
 }
 
 fn plays<'a>(script: &str, heap: &'a Heap, rt: &impl Abort) {
-    let bench = played(script, Limits::usual(), heap, rt);
-    keeps_each(&bench, rt);
+    let mut bench = played(script, Limits::usual(), heap, rt);
+    keeps_each(&mut bench, rt);
     drop(bench);
 }
 

@@ -62,7 +62,7 @@ fn can_be_unwound<'a, B: Allocator>(bench: &Bench<'a, B>, number: u64)
 }
 
 /// Uses the laws on the bench, also for step 1, which need not remain. Says whether no step remains.
-fn laws_hold<'a, B: Allocator>(bench: &Bench<'a, B>) -> bool {
+fn laws_hold<'a, B: Allocator>(bench: &mut Bench<'a, B>) -> bool {
     runs_in_order(bench);
     can_be_left_out(bench, 1);
     can_be_unwound(bench, 1);
@@ -70,8 +70,8 @@ fn laws_hold<'a, B: Allocator>(bench: &Bench<'a, B>) -> bool {
 }
 
 fn plays<'a>(script: &str, heap: &'a Heap, rt: &impl Abort) {
-    let bench = opened(script, Limits::usual(), heap, rt);
-    holds!(rt, laws_hold(&bench));
+    let mut bench = opened(script, Limits::usual(), heap, rt);
+    holds!(rt, laws_hold(&mut bench));
     drop(bench);
 }
 

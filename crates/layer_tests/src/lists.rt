@@ -44,7 +44,11 @@ fn list_of<'a>(bench: &Bench<'a, Heap>, number: u16, heap: &'a Heap, rt: &impl A
 }
 
 /// The online lists of the first two nodes.
-fn lists_of<'a>(bench: &Bench<'a, Heap>, heap: &'a Heap, rt: &impl Abort) -> (Rows<'a>, Rows<'a>)
+fn lists_of<'a>(
+    bench: &mut Bench<'a, Heap>,
+    heap: &'a Heap,
+    rt: &impl Abort,
+) -> (Rows<'a>, Rows<'a>)
     ensures first { AreInOrder result.0.items }
     ensures second { AreInOrder result.1.items }
 {
@@ -159,8 +163,8 @@ fn refused_in_turn<'a>(a: &Rows<'a>, b: &Rows<'a>, heap: &'a Heap, rt: &impl Abo
 /// Plays the script. The lists of its two nodes must be `AT_A` and `AT_B`, and differ by `AT_A_ALONE` and `AT_B_ALONE`.
 /// Then each request for memory of this comparison is refused in turn.
 fn compares<'a>(script: &str, heap: &'a Heap, rt: &impl Abort) {
-    let bench = played(script, Limits::usual(), heap, rt);
-    let (a, b) = lists_of(&bench, heap, rt);
+    let mut bench = played(script, Limits::usual(), heap, rt);
+    let (a, b) = lists_of(&mut bench, heap, rt);
     drop(bench);
     holds!(rt, are(&a, AT_A) && are(&b, AT_B));
     holds!(rt, begins_in_order(&a) && begins_in_order(&b));
@@ -190,8 +194,8 @@ fn counts_of<'a>(one: &Rows<'a>, other: &Rows<'a>, heap: &'a Heap) -> Option<(us
 
 /// Plays the script of `wide`. The first node must list 131 rows, the second 65 of these.
 fn compares_large<'a>(script: &str, heap: &'a Heap, rt: &impl Abort) {
-    let bench = played(script, Limits::usual(), heap, rt);
-    let (a, b) = lists_of(&bench, heap, rt);
+    let mut bench = played(script, Limits::usual(), heap, rt);
+    let (a, b) = lists_of(&mut bench, heap, rt);
     drop(bench);
     holds!(rt, (a.len(), b.len()) == (131, 65));
     holds!(rt, counts_of(&a, &b, heap) == Some((66, 0)));

@@ -160,7 +160,7 @@ fn presence<'a>(node: u16, key: &str, heap: &'a Heap, rt: &impl Abort) -> Questi
 /// What an exploration of the bench gives. `changes` has how many deliveries may be lost and how many may come again;
 /// `most` is how many states may be kept.
 fn explored<'a>(
-    bench: &Bench<'a, Heap>,
+    bench: &mut Bench<'a, Heap>,
     asked: &Question<&'a Heap>,
     changes: (usize, usize),
     most: usize,
@@ -187,9 +187,9 @@ fn has_runs<'a>(explored: &Explored<'a, Heap>, runs: &[&[usize]]) -> bool {
 
 /// Explores the case: the outcomes must have the runs that the case lists.
 fn case_holds(case: &Case, heap: &Heap, rt: &impl Abort) {
-    let bench = played(case.text, Limits::usual(), heap, rt);
+    let mut bench = played(case.text, Limits::usual(), heap, rt);
     let asked = presence(case.node, "x", heap, rt);
-    let told = explored(&bench, &asked, (case.lost, case.again), 1000, heap, rt);
+    let told = explored(&mut bench, &asked, (case.lost, case.again), 1000, heap, rt);
     drop(asked);
     drop(bench);
     holds!(rt, told.is_ok_and(|told| has_runs(&told, case.runs)));
@@ -252,12 +252,12 @@ fn are_so<'a>(explored: &Explored<'a, Heap>, told: &Standings) -> bool {
 
 /// Explores the case: the outcomes must be those that the case lists.
 fn standings_hold(told: &Standings, heap: &Heap, rt: &impl Abort) {
-    let bench = played(told.text, Limits::usual(), heap, rt);
+    let mut bench = played(told.text, Limits::usual(), heap, rt);
     let asked = match told.node {
         Some(node) => Question::Node(node),
         None => Question::Cluster,
     };
-    let found = explored(&bench, &asked, (0, 0), 1000, heap, rt);
+    let found = explored(&mut bench, &asked, (0, 0), 1000, heap, rt);
     drop(asked);
     drop(bench);
     holds!(rt, found.is_ok_and(|found| are_so(&found, told)));
@@ -272,7 +272,7 @@ fn replicas_come_out_by_what_the_network_does(rt: HostRuntime) {
 }
 
 /// Explores with at most three states, which are too few, and with four, which are enough.
-fn keeps_four<'a>(bench: &Bench<'a, Heap>, heap: &'a Heap, rt: &impl Abort) {
+fn keeps_four<'a>(bench: &mut Bench<'a, Heap>, heap: &'a Heap, rt: &impl Abort) {
     let asked = presence(1, "x", heap, rt);
     let few = explored(bench, &asked, (0, 0), 3, heap, rt).err();
     let enough = explored(bench, &asked, (0, 0), 4, heap, rt);
@@ -283,8 +283,8 @@ fn keeps_four<'a>(bench: &Bench<'a, Heap>, heap: &'a Heap, rt: &impl Abort) {
 
 /// Plays `UP_LATE`; `keeps_four` explores it.
 fn few_states_are_kept<'a>(heap: &'a Heap, rt: &impl Abort) {
-    let bench = played(UP_LATE, Limits::usual(), heap, rt);
-    keeps_four(&bench, heap, rt);
+    let mut bench = played(UP_LATE, Limits::usual(), heap, rt);
+    keeps_four(&mut bench, heap, rt);
     drop(bench);
 }
 
@@ -298,13 +298,13 @@ fn states_are_no_more_than_may_be(rt: HostRuntime) {
 /// the other joins.
 fn a_node_may_fill<'a>(heap: &'a Heap, rt: &impl Abort) {
     let limits = limits_of([100, 1, 100, 100], rt);
-    let bench = played(
+    let mut bench = played(
         "nodes a\na join 1 r x phone\na leave 1 r x\na join 1 r x phone",
         limits,
         heap,
         rt,
     );
-    let fault = explored(&bench, &Question::Cluster, (0, 0), 1000, heap, rt).err();
+    let fault = explored(&mut bench, &Question::Cluster, (0, 0), 1000, heap, rt).err();
     drop(bench);
     holds!(rt, fault == Some(ExploreFault::MayFill));
 }
@@ -321,10 +321,10 @@ fn joins_that_may_fill_a_node_are_refused(rt: HostRuntime) {
 fn a_wide_run_has_few_outcomes(rt: HostRuntime) {
     let heap = Refusing::new(rt.alloc());
     let text = wide::script(&heap, &rt);
-    let bench = played(text.as_str(), Limits::usual(), &heap, &rt);
+    let mut bench = played(text.as_str(), Limits::usual(), &heap, &rt);
     drop(text);
     let asked = presence(1, "k130", &heap, &rt);
-    let told = explored(&bench, &asked, (0, 0), 1000, &heap, &rt);
+    let told = explored(&mut bench, &asked, (0, 0), 1000, &heap, &rt);
     drop(asked);
     drop(bench);
     holds!(&rt, told.is_ok_and(|told| told.outcomes.len() == 2));
@@ -333,7 +333,7 @@ fn a_wide_run_has_few_outcomes(rt: HostRuntime) {
 /// Explores with the first, second, .. request for memory refused, until no refusal is met. Each refusal must be
 /// `OutOfMemory`.
 fn explore_refused<'a>(
-    bench: &Bench<'a, Heap>,
+    bench: &mut Bench<'a, Heap>,
     asked: &Question<&'a Heap>,
     heap: &'a Heap,
     rt: &impl Abort,
@@ -351,14 +351,14 @@ fn explore_refused<'a>(
 }
 
 /// Like `explore_refused`, asking for the rows of topic `r` and key `x` at node 1.
-fn rows_refused<'a>(bench: &Bench<'a, Heap>, heap: &'a Heap, rt: &impl Abort) {
+fn rows_refused<'a>(bench: &mut Bench<'a, Heap>, heap: &'a Heap, rt: &impl Abort) {
     let asked = presence(1, "x", heap, rt);
     explore_refused(bench, &asked, heap, rt);
     drop(asked);
 }
 
 /// Like `explore_refused`, for each kind of question.
-fn each_refused<'a>(bench: &Bench<'a, Heap>, heap: &'a Heap, rt: &impl Abort) {
+fn each_refused<'a>(bench: &mut Bench<'a, Heap>, heap: &'a Heap, rt: &impl Abort) {
     rows_refused(bench, heap, rt);
     explore_refused(bench, &Question::Node(1), heap, rt);
     explore_refused(bench, &Question::Cluster, heap, rt);
@@ -366,8 +366,8 @@ fn each_refused<'a>(bench: &Bench<'a, Heap>, heap: &'a Heap, rt: &impl Abort) {
 
 /// Asks each kind of question of one bench, like `each_refused`.
 fn each_question_is_refused<'a>(heap: &'a Heap, rt: &impl Abort) {
-    let bench = played(GONE, Limits::usual(), heap, rt);
-    each_refused(&bench, heap, rt);
+    let mut bench = played(GONE, Limits::usual(), heap, rt);
+    each_refused(&mut bench, heap, rt);
     drop(bench);
 }
 
@@ -402,7 +402,7 @@ impl Watch<Walked> for Counting {
 /// The walk of `UP_LATE` goes from the opening through a join, a broadcast, an up and a delivery; then, from the
 /// broadcast on, through the delivery and the up. So it tells the watcher of seven states. When it tells of the last
 /// two, it has kept two states: the one after the first up, and the one after the delivery that follows that up.
-fn tells_seven<'a>(bench: &Bench<'a, Heap>, heap: &'a Heap, rt: &impl Abort) {
+fn tells_seven<'a>(bench: &mut Bench<'a, Heap>, heap: &'a Heap, rt: &impl Abort) {
     let asked = presence(1, "x", heap, rt);
     let mut watch = Counting {
         calls: 0,
@@ -418,8 +418,8 @@ fn tells_seven<'a>(bench: &Bench<'a, Heap>, heap: &'a Heap, rt: &impl Abort) {
 
 /// Plays `UP_LATE`; `tells_seven` explores it, and looks at what the watcher heard.
 fn walk_is_watched<'a>(heap: &'a Heap, rt: &impl Abort) {
-    let bench = played(UP_LATE, Limits::usual(), heap, rt);
-    tells_seven(&bench, heap, rt);
+    let mut bench = played(UP_LATE, Limits::usual(), heap, rt);
+    tells_seven(&mut bench, heap, rt);
     drop(bench);
 }
 

@@ -115,7 +115,7 @@ fn reads_both<'a>(a: &Node<'a, Heap>, b: &Node<'a, Heap>, rt: &impl Abort) {
 
 /// Reads a bench, its journal, its history and its first two nodes; then copies what the first node holds, and edits
 /// the copies.
-fn reads_and_edits<'a>(bench: &Bench<'a, Heap>, heap: &'a Heap, rt: &impl Abort) {
+fn reads_and_edits<'a>(bench: &mut Bench<'a, Heap>, heap: &'a Heap, rt: &impl Abort) {
     let a = bench.node(0).expect(rt, "a node");
     let b = bench.node(1).expect(rt, "a node");
     heap.refuse_from(1);
@@ -127,8 +127,8 @@ fn reads_and_edits<'a>(bench: &Bench<'a, Heap>, heap: &'a Heap, rt: &impl Abort)
 }
 
 fn plays<'a>(script: &str, heap: &'a Heap, rt: &impl Abort) {
-    let bench = played(script, Limits::usual(), heap, rt);
-    reads_and_edits(&bench, heap, rt);
+    let mut bench = played(script, Limits::usual(), heap, rt);
+    reads_and_edits(&mut bench, heap, rt);
     drop(bench);
 }
 

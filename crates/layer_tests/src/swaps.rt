@@ -157,7 +157,7 @@ const SWAPS: &[Swaps] = &[
 /// answer, and how many requests were refused; `OutOfMemory` and 9 if each of the first 9 was.
 fn answer_of<'a>(
     one: &Bench<'a, Heap>,
-    other: &Bench<'a, Heap>,
+    other: &mut Bench<'a, Heap>,
     places: &[u64],
     heap: &'a Heap,
 ) -> (Result<(), SwapFault>, u64) {
@@ -174,10 +174,10 @@ fn answer_of<'a>(
 
 /// Compares `one` with the other bench of the case. This must ask for no memory if names or limits differ, and for some
 /// otherwise.
-fn compare<'a>(one: &Bench<'a, Heap>, swaps: &Swaps, heap: &'a Heap, rt: &impl Abort) {
+fn compare<'a>(one: &mut Bench<'a, Heap>, swaps: &Swaps, heap: &'a Heap, rt: &impl Abort) {
     let limits = limits_of(swaps.limits, rt);
-    let other = played(swaps.other, limits, heap, rt);
-    let (answer, refused) = answer_of(one, &other, swaps.places, heap);
+    let mut other = played(swaps.other, limits, heap, rt);
+    let (answer, refused) = answer_of(one, &mut other, swaps.places, heap);
     drop(other);
     let is_other = swaps.answer == Err(SwapFault::OtherBench);
     holds(rt, answer == swaps.answer, swaps.name);
@@ -187,8 +187,8 @@ fn compare<'a>(one: &Bench<'a, Heap>, swaps: &Swaps, heap: &'a Heap, rt: &impl A
 /// Plays the first script of the case, and compares the bench with the other.
 fn compares<'a>(swaps: &Swaps, heap: &'a Heap, rt: &impl Abort) {
     let limits = limits_of(USUAL, rt);
-    let one = played(swaps.one, limits, heap, rt);
-    compare(&one, swaps, heap, rt);
+    let mut one = played(swaps.one, limits, heap, rt);
+    compare(&mut one, swaps, heap, rt);
     drop(one);
 }
 
