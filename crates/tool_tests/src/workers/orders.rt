@@ -117,7 +117,7 @@ fn entries_of<'a, B: Allocator>(bench: &Bench<'a, B>, number: u16, rt: &impl Abo
 
 /// Whether the bench gave the order's replies, and node `b` has as many entries as the order says.
 fn is_left_so<'a>(
-    bench: &Bench<'a, Global>,
+    bench: &mut Bench<'a, Global>,
     order: &Order,
     heap: &'a Global,
     rt: &impl Abort,
@@ -136,8 +136,8 @@ fn is_raced_so<R: Threads + Wait + Clock + Abort + Sync + Copy>(
     order: &Order,
 ) -> bool {
     let gate = InOrder::new(*rt, order.lines, ACTORS, 3);
-    let left = raced(heap, UNDONE_BESIDE, 3, &gate, rt);
-    let is_so = is_left_so(&left.0, order, heap, rt);
+    let mut left = raced(heap, UNDONE_BESIDE, 3, &gate, rt);
+    let is_so = is_left_so(&mut left.0, order, heap, rt);
     drop(left);
     is_so && gate.has_passed_each_once()
 }
@@ -276,7 +276,7 @@ fn agree_altered<R: Threads + Wait + Clock + Abort + Sync + Copy>(
 ) -> (bool, bool) {
     let mut left = raced_in_turn(heap, rt);
     alter(alteration, &mut left.1, rt);
-    let agree = agree_with_none(&left, UNDONE_BESIDE, heap, rt);
+    let agree = agree_with_none(&mut left, UNDONE_BESIDE, heap, rt);
     drop(left);
     agree
 }
@@ -297,16 +297,25 @@ fn asked_to_undo<'a>(heap: &'a Global, number: u64, rt: &impl Abort) -> Bench<'a
     bench
 }
 
-/// Whether the receipts of `left` agree with the history of its bench, if the history before the race is given as that
-/// of a fresh bench which a console asked to undo step `number`.
-fn agrees_after_undo<'a>(
+/// Whether the receipts of `left` agree with the history of its bench, if that of `before` is the one before the race.
+fn agrees_from<'a>(
+    before: &mut Bench<'a, Global>,
     left: &Left<'a, Global>,
+    heap: &'a Global,
+    rt: &impl Abort,
+) -> bool {
+    agrees(before, &left.0, UNDONE_BESIDE, &left.1, heap, rt)
+}
+
+/// Like `agrees_from`, with a fresh bench that a console asked to undo step `number`.
+fn agrees_after_undo<'a>(
+    left: &mut Left<'a, Global>,
     number: u64,
     heap: &'a Global,
     rt: &impl Abort,
 ) -> bool {
-    let before = asked_to_undo(heap, number, rt);
-    let agrees = agrees(&before, &left.0, UNDONE_BESIDE, &left.1, heap, rt);
+    let mut before = asked_to_undo(heap, number, rt);
+    let agrees = agrees_from(&mut before, left, heap, rt);
     drop(before);
     agrees
 }
@@ -321,8 +330,8 @@ fn agrees_after<R: Threads + Wait + Abort + Sync>(
     other: u64,
 ) -> bool {
     let bench = asked_to_undo(heap, asked, rt);
-    let left = raced_on(bench, heap, UNDONE_BESIDE, 3, &Idle, rt);
-    let agrees = agrees_after_undo(&left, other, heap, rt);
+    let mut left = raced_on(bench, heap, UNDONE_BESIDE, 3, &Idle, rt);
+    let agrees = agrees_after_undo(&mut left, other, heap, rt);
     drop(left);
     agrees
 }

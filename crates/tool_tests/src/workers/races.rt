@@ -50,12 +50,17 @@ fn race_of<'a, B: Allocator + Sync, G: Gate + Sync, R: Threads + Wait + Sync + A
     race(rt, heap, bench, actors, lines, gate)
 }
 
-/// The fault of a race that was refused, how many calls its bench has recorded, and its limit on acts.
+/// How many calls the bench has recorded, and its limit on acts.
+fn recorded_of<'a, B: Allocator>(bench: &mut Bench<'a, B>) -> (usize, u64) {
+    (bench.history().len(), bench.limits().acts())
+}
+
+/// The fault of a race that was refused, and what `recorded_of` gives of its bench.
 fn refusal_of<'a, B: Allocator>(refused: (RaceFault, Bench<'a, B>)) -> (RaceFault, usize, u64) {
-    let (fault, bench) = refused;
-    let told = (fault, bench.history().len(), bench.limits().acts());
+    let (fault, mut bench) = refused;
+    let (recorded, most) = recorded_of(&mut bench);
     drop(bench);
-    told
+    (fault, recorded, most)
 }
 
 /// Races the lines of the script on this bench, and gives the bench and the receipts. The race must be vouched for.
@@ -99,19 +104,31 @@ pub fn agrees<'a, B: Allocator>(
     agrees.expect(rt, "memory")
 }
 
-/// What `agrees` says of the receipts of `left`, with a fresh bench before the race and the bench of `left` after it;
-/// and what it says if these two benches are exchanged.
-pub fn agree_with_none<'a, B: Allocator>(
+/// What `agrees` says of the receipts of `left`, with `opening` before the race and the bench of `left` after it; and
+/// what it says if these two benches are exchanged.
+fn agree_both_ways<'a, B: Allocator>(
+    opening: &mut Bench<'a, B>,
     left: &Left<'a, B>,
     script: &str,
     heap: &'a B,
     rt: &impl Abort,
 ) -> (bool, bool) {
-    let opening = open(heap, 100, rt);
-    let agree = agrees(&opening, &left.0, script, &left.1, heap, rt);
-    let agree_backwards = agrees(&left.0, &opening, script, &left.1, heap, rt);
-    drop(opening);
+    let agree = agrees(opening, &left.0, script, &left.1, heap, rt);
+    let agree_backwards = agrees(&left.0, opening, script, &left.1, heap, rt);
     (agree, agree_backwards)
+}
+
+/// Like `agree_both_ways`, with a fresh bench before the race.
+pub fn agree_with_none<'a, B: Allocator>(
+    left: &mut Left<'a, B>,
+    script: &str,
+    heap: &'a B,
+    rt: &impl Abort,
+) -> (bool, bool) {
+    let mut opening = open(heap, 100, rt);
+    let agree = agree_both_ways(&mut opening, left, script, heap, rt);
+    drop(opening);
+    agree
 }
 
 /// Makes the recorded calls of `bench` on `again`. Says whether `again` replies to each as `bench` did.
@@ -128,7 +145,7 @@ fn replies_so<'a, B: Allocator>(again: &mut Bench<'a, B>, bench: &Bench<'a, B>) 
 }
 
 /// Whether two benches of two nodes have the same nodes.
-fn same_nodes<'a, B: Allocator>(one: &Bench<'a, B>, other: &Bench<'a, B>) -> bool {
+fn same_nodes<'a, B: Allocator>(one: &mut Bench<'a, B>, other: &Bench<'a, B>) -> bool {
     for number in 0..2u16 {
         let (Some(node), Some(again)) = (one.node(number), other.node(number)) else {
             return false;
@@ -147,7 +164,7 @@ fn is_what_its_history_gives<'a, B: Allocator>(
     rt: &impl Abort,
 ) -> bool {
     let mut again = open(alloc, bench.limits().acts(), rt);
-    let is_so = replies_so(&mut again, bench) && same_nodes(&again, bench);
+    let is_so = replies_so(&mut again, bench) && same_nodes(&mut again, bench);
     drop(again);
     is_so
 }
@@ -163,7 +180,7 @@ fn have_lengths<A: Allocator>(lists: &[Vec<Receipt<A>, A>], lengths: &[usize]) -
 
 /// Whether what a race of `DELIVERED` left has a receipt for each line, the receipts agree with the bench's history,
 /// and a fresh bench that is asked this history's calls gives the same replies and nodes.
-fn are_vouched_for<'a, B: Allocator>(left: &Left<'a, B>, heap: &'a B, rt: &impl Abort) -> bool {
+fn are_vouched_for<'a, B: Allocator>(left: &mut Left<'a, B>, heap: &'a B, rt: &impl Abort) -> bool {
     agree_with_none(left, DELIVERED, heap, rt) == (true, false)
         && have_lengths(&left.1, &[2, 2, 0])
         && is_what_its_history_gives(&left.0, heap, rt)
@@ -172,8 +189,8 @@ fn are_vouched_for<'a, B: Allocator>(left: &Left<'a, B>, heap: &'a B, rt: &impl 
 #[test]
 fn a_race_is_vouched_for(rt: HostRuntime) {
     let heap = rt.alloc();
-    let left = raced(&heap, DELIVERED, 3, &Idle, &rt);
-    let is_so = are_vouched_for(&left, &heap, &rt);
+    let mut left = raced(&heap, DELIVERED, 3, &Idle, &rt);
+    let is_so = are_vouched_for(&mut left, &heap, &rt);
     drop(left);
     assert!(rt; is_so);
 }
@@ -182,7 +199,7 @@ fn a_race_is_vouched_for(rt: HostRuntime) {
 const TURNS: &[(&[u64], u16)] = &[(&[2, 1], 0), (&[1, 2], 1)];
 
 /// Whether the second call of the history is the join of this node.
-fn is_last<'a, B: Allocator>(bench: &Bench<'a, B>, node: u16) -> bool {
+fn is_last<'a, B: Allocator>(bench: &mut Bench<'a, B>, node: u16) -> bool {
     match bench.history().at(1) {
         Some(last) => last.actor == node && last.reply == Reply::Taken(2),
         None => false,
@@ -198,8 +215,8 @@ fn turns<R: Threads + Wait + Clock + Abort + Sync + Copy>(
     later: u16,
 ) -> bool {
     let gate = InOrder::new(*rt, order, &[0, 1], 0);
-    let left = raced(heap, TWO_JOINS, 2, &gate, rt);
-    let is_so = is_last(&left.0, later);
+    let mut left = raced(heap, TWO_JOINS, 2, &gate, rt);
+    let is_so = is_last(&mut left.0, later);
     drop(left);
     is_so && gate.has_passed_each_once()
 }

@@ -177,7 +177,7 @@ fn are_all_taken<'a>(left: &Left<'a, Global>, node: u16, rt: &impl Abort) -> boo
 }
 
 /// Whether the bench has taken a thousand joins of each node, and the receipts account for its history.
-fn are_all_told<'a>(left: &Left<'a, Global>, heap: &'a Global, rt: &impl Abort) -> bool {
+fn are_all_told<'a>(left: &mut Left<'a, Global>, heap: &'a Global, rt: &impl Abort) -> bool {
     let script = joins(rt, heap, &["a", "b"]);
     agree_with_none(left, script.as_str(), heap, rt) == (true, false)
         && are_all_taken(left, 0, rt)
@@ -189,8 +189,8 @@ fn are_all_told<'a>(left: &Left<'a, Global>, heap: &'a Global, rt: &impl Abort) 
 #[test]
 fn two_threads_share_a_bench(rt: HostRuntime) {
     let heap = rt.alloc();
-    let left = shared_by_two(&heap, &rt);
-    let is_so = are_all_told(&left, &heap, &rt);
+    let mut left = shared_by_two(&heap, &rt);
+    let is_so = are_all_told(&mut left, &heap, &rt);
     drop(left);
     assert!(rt; is_so);
 }
