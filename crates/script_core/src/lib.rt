@@ -18,5 +18,6 @@ pub use play_fault::PlayFault;
 pub use playing::{play, play_counted};
 pub use run_core::{Played, Prompt, report_history, run_script};
 pub use stream_core::{
-    FakeReader, FakeWriter, InputFault, Steps, WriteFault, read_all, read_input, write_out,
+    FakeReader, FakeWriter, InputFault, Lost, Steps, WriteFault, read_all, read_input, write_noted,
+    write_out,
 };

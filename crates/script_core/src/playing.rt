@@ -6,7 +6,7 @@ ghost use Rattle.script_core.specs.Play.{EndsAt, FailsAs, KeepsBefore, TellsMemo
 use crate::play_fault::PlayFault;
 use bench_core::Limits;
 use grammar_core::{FaultKind, LONGEST_SCRIPT, ScriptFault, parse_script};
-use run_core::run_script;
+use run_core::{Played, run_script};
 use std::alloc::Allocator;
 use std::io::{Read, Write};
 use std::marker::Brand;
@@ -50,11 +50,12 @@ pub fn play_counted<B: Allocator, R: Read, W: Write, L: Ledger>(
     };
     let run = run_script(&script, alloc, limits);
     drop(script);
-    let Ok(played) = run else {
+    let Ok(Played { bench, report }) = run else {
         return Err(PlayFault::OutOfMemory);
     };
-    let written = write_out(writer, &played.report);
-    drop(played);
+    bench.discard();
+    let written = write_out(writer, &report);
+    drop(report);
     match written {
         Ok(()) => Ok(()),
         Err(fault) => Err(PlayFault::WriteFault {
@@ -63,7 +64,7 @@ pub fn play_counted<B: Allocator, R: Read, W: Write, L: Ledger>(
     }
 }
 
-/// Like `play_counted`, but makes the count itself, from `blank`, and drops it.
+/// Like `play_counted`, but makes the count itself, with the ledger of `blank`, and drops it.
 fn play_from<B: Allocator, R: Read, W: Write, L: Ledger>(
     alloc: &B,
     reader: &mut R,

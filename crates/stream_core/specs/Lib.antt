@@ -1,3 +1,4 @@
 pub mod Inputs
+pub mod Lost
 pub mod NextLines
 pub mod Steps

@@ -4,7 +4,9 @@ ghost use Rattle.std.specs.Prelude.{◌≡◌, ◌≢◌, ◌+◌, ◌<◌, ◌�
 ghost use Rattle.stream_core.specs.Steps.{FailsAs};
 ghost use Rattle.std.specs.Io.KnownBytes.{Appends, IsAtEnd};
 ghost use Rattle.stream_core.specs.Inputs.{IsFront, IsWhole, IsLonger, TakesAtMost};
+ghost use Rattle.stream_core.specs.Lost.{lost_after};
 
+use crate::lost::{Lost, write_once};
 use crate::steps::{Steps, read_once};
 use crate::stream_fault::{InputFault, WriteFault};
 use std::alloc::Allocator;
@@ -106,18 +108,32 @@ pub fn read_input<A: Allocator, R: Read>(
     read_from::<A, R, Brand>(alloc, reader, limit, Blank::new(2))
 }
 
-/// Writes all bytes. A write that takes nothing counts as failed.
+/// Writes all bytes. A write that takes nothing counts as failed; a failed write is noted in `lost`.
+pub fn write_noted<W: Write>(
+    writer: &mut W,
+    bytes: &[u8],
+    lost: &mut Lost,
+) -> Result<(), WriteFault>
+    ensures ok { OnOk result (Appends (W.contents writer.old) (W.contents writer.new) bytes.now) }
+    ensures short { IfErr result (λ fault. fault.written < length bytes.now) }
+    ensures err { IfErr result (λ fault. Appends (W.contents writer.old) (W.contents writer.new) (take fault.written bytes.now)) }
+    ensures lost { lost.new ≡ lost_after lost.old result }
+{
+    let mut written = 0;
+    while written < bytes.len() {
+        let Some(count) = write_once(writer, &bytes[written..], lost) else {
+            return Err(WriteFault { written });
+        };
+        written += count;
+    }
+    Ok(())
+}
+
+/// Like `write_noted`, for callers that don't go on after a failed write.
 pub fn write_out<W: Write>(writer: &mut W, bytes: &[u8]) -> Result<(), WriteFault>
     ensures ok { OnOk result (Appends (W.contents writer.old) (W.contents writer.new) bytes.now) }
     ensures short { IfErr result (λ fault. fault.written < length bytes.now) }
     ensures err { IfErr result (λ fault. Appends (W.contents writer.old) (W.contents writer.new) (take fault.written bytes.now)) }
 {
-    let mut written = 0;
-    while written < bytes.len() {
-        match writer.write(&bytes[written..]) {
-            Ok(0) | Err(_) => return Err(WriteFault { written }),
-            Ok(count) => written += count,
-        }
-    }
-    Ok(())
+    write_noted(writer, bytes, &mut Lost::nothing())
 }

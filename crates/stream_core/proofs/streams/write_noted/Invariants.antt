@@ -1,12 +1,13 @@
-use Rattle.std.proofs.Common.{◌≤◌, ◌-◌, length, take}
+use Rattle.std.proofs.Common.{◌≡◌, ◌≤◌, ◌-◌, length, take}
 use Rattle.std.specs.Io.KnownBytes.{Appends}
-use Rattle.stream_core.proofs.streams.write_out.Given as goal
+use Rattle.stream_core.proofs.streams.write_noted.Given as goal
 
--- the first `written` bytes went out
+-- the first `written` bytes went out, and no write failed
 abbrev pub invariant-loop-written : goal.invariant-loop-written
 invariant-loop-written g l = record {
   within : l.written ≤ length l.bytes;
   sent : Appends (g.W.Write.contents l.fn.writer) (g.W.Write.contents l.writer) (take l.written l.bytes);
+  lost : l.lost ≡ l.fn.lost;
 }
 
 abbrev pub decreases-loop-written : goal.decreases-loop-written
