@@ -112,6 +112,21 @@ impl<'a, B: Allocator> Bench<'a, B> {
         })
     }
 
+    /// Drops the bench. A crate that calls this needs no proof of how the parts of a bench are dropped.
+    pub fn discard(self) {
+        let Bench {
+            names,
+            cluster,
+            journal,
+            history,
+            ..
+        } = self;
+        drop(names);
+        drop(cluster);
+        journal.discard();
+        drop(history);
+    }
+
     /// The names of the nodes, by node number.
     pub fn names(&self) -> &Names<&'a B>
         ensures { result.now ≡ self.now.names }

@@ -130,7 +130,7 @@ impl<A: Allocator> Word<A> {
         self.as_str() == other.as_str()
     }
 
-    /// The word `-`. It takes no memory.
+    /// The word `-`, a placeholder until an entry has its own word. It takes no memory.
     pub(crate) fn dash() -> Word<A>
         ensures { IsShortText result }
     {

@@ -34,6 +34,7 @@ fn fault_of(code: u64) -> Option<Fault>
     }
 }
 
+/// `HasConsequence` with the two numbers behind 16; `Shape` unless just two whole numbers follow.
 #[tactic(auto, unfolding(crate::specs::Decoding::consequence_at))]
 fn consequence_at(list: &Value) -> Result<Fault, Unread>
     ensures { Gives (λ f. f) result (consequence_at (view list.now)) }
@@ -46,8 +47,8 @@ fn consequence_at(list: &Value) -> Result<Fault, Unread>
     Ok(Fault::HasConsequence { step, held_by })
 }
 
-/// The fault of a refusal, by the number behind `no`. Behind 16, `HasConsequence`, the list has the numbers of the step
-/// and of its consequence. `Shape` for any other list.
+/// The fault of a refusal, by the number behind `no`. Behind 16, which stands for `HasConsequence`, the list has the
+/// numbers of the step and of its consequence. `Shape` if the list has another form, or the number is no such fault's.
 #[tactic(auto, unfolding(crate::specs::Decoding::fault_at))]
 fn fault_at(list: &Value) -> Result<Fault, Unread>
     ensures { Gives (λ f. f) result (fault_at (view list.now)) }
@@ -63,7 +64,7 @@ fn fault_at(list: &Value) -> Result<Fault, Unread>
     Ok(fault)
 }
 
-/// The number that is the second and last item of the list; `Shape` if there is none.
+/// The number behind the list's first word; `Shape` unless just a whole number follows that word.
 #[tactic(auto, unfolding(crate::specs::Decoding::counted_at))]
 fn counted_at(list: &Value) -> Result<u64, Unread>
     ensures { Gives (λ n. n) result (counted_at (view list.now)) }

@@ -87,8 +87,8 @@ impl Hop {
         matches!(self.kind, Kind::Sent) && self.standing.is_same(wanted)
     }
 
-    /// Whether the step is of this kind, and so tells why the dot doesn't stand as `wanted` at the node: what
-    /// `is_forgotten_at`, `is_missed_at` or `is_sent_as` says. `Came` tells no reason, and gives the answer for `Sent`.
+    /// Whether this step is a reason of this kind why the dot doesn't stand as `wanted` at the node: `is_forgotten_at`
+    /// for `Forgot`, `is_missed_at` for `Missed`, `is_sent_as` for `Sent`. `Came` is no reason; it counts as `Sent`.
     fn is_why(&self, kind: Kind, node: u16, wanted: Standing) -> bool
         ensures { result ≡ is_why kind node wanted self.now }
     {
@@ -283,7 +283,7 @@ pub fn last_statuses<'a, B: Allocator>(
     Ok(statuses)
 }
 
-/// The same as `last_status`, looked up in `statuses` if that has the name.
+/// The same as `last_status`, looked up in `statuses` (see `last_statuses`) if that list has the name.
 pub fn status_among<'a, B: Allocator>(
     journal: &Journal<'a, B>,
     statuses: &[Option<u64>],

@@ -26,7 +26,7 @@ pub struct Hop {
     pub node: u16,
     /// How the dot stands in the message; or, if the dot was forgotten, how it stood before.
     pub standing: Standing,
-    /// The number of the message that the step sent; 0 for other steps.
+    /// The number of the message that the step sent; 0 if it sent none.
     pub message: u64,
     /// The number of the step that made what this step read. For a delivery that is the step that sent the message; for
     /// any other, the step since which the dot stood at the node as it did before this step. `None` if there is no such

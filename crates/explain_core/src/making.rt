@@ -118,7 +118,7 @@ pub fn makings_of<'a, B: Allocator>(
     let mut makings = Vec::new(alloc);
     let answer = put_makings(&mut makings, &mut asked, topic, key, bench.remaining());
     // form: drop before exit
-    drop(asked);
+    asked.discard();
     answer?;
     Ok(makings)
 }

@@ -19,8 +19,8 @@ pub enum Standing {
 }
 
 impl Standing {
-    /// Whether this standing comes after `other` in the order unseen, live, gone. A delivery replaces a dot's standing
-    /// at the node by that in the message, if the latter is above the former and the node knows the dot's name.
+    /// Whether this standing comes after `other` in the order unseen, live, gone. A delivery gives a dot the standing
+    /// that it has in the message, if that is above its standing at the node and the node knows the dot's name.
     pub fn is_above(self, other: Standing) -> bool
         ensures { result ≡ is_above self other }
     {

@@ -116,7 +116,7 @@ fn follow_all<'a, B: Allocator>(
     let mut asked = opened(bench, alloc)?;
     let answer = follow_steps(bench, &mut asked, traced);
     // form: drop before exit
-    drop(asked);
+    asked.discard();
     answer
 }
 

@@ -48,6 +48,7 @@ fn sender_among(hops: &[Hop], node: u16, message: u64) -> Option<u64>
         .map(|hop| hop.number)
 }
 
+/// A hop of the step `kept`, with the number and the node of the step.
 fn hop_of<A: Allocator>(
     kept: &Kept<A>,
     kind: Kind,
@@ -67,7 +68,8 @@ fn hop_of<A: Allocator>(
     }
 }
 
-/// The hop of a send in whose message the dot stands as `told`; `None` if the dot isn't in the message.
+/// The hop of a send: the dot stood as `before` at the node, and stands as `told` in the message. `None` if the message
+/// doesn't have the dot.
 fn sent_hop<A: Allocator>(
     kept: &Kept<A>,
     before: Stand,
@@ -84,8 +86,9 @@ fn sent_hop<A: Allocator>(
     }
 }
 
-/// The hop of a delivery: the dot stands as `told` in the message, stood as `before` at the node, and stands there as
-/// `now`. `Came` if `now` is another standing than before; else `Missed`, if `told` is above `now`; else `None`.
+/// The hop of a delivery: the dot stood as `before` at the node, stands as `told` in the message, and as `now` at the
+/// node after it. `Came` if the standing at the node changed; `Missed` if it didn't and `told` is above it; `None` if
+/// neither is so. `reads` is the number of the step that sent the message.
 fn delivered_hop<A: Allocator>(
     kept: &Kept<A>,
     before: Stand,
@@ -135,8 +138,8 @@ fn other_hop<A: Allocator>(kept: &Kept<A>, before: Stand, now: Standing) -> Opti
     }
 }
 
-/// The hop of a step; `None` if it neither sent, brought, missed nor forgot the dot. The dot stood as `before` at the
-/// step's node and stands there as `now`. `asked` is the bench after the step.
+/// The hop of a step; `None` if it neither sent, delivered, missed nor forgot the dot. The dot stood as `before` at the
+/// step's node and stands there as `now`. `asked` is the bench after the step; `hops` are the dot's earlier hops.
 #[tactic(auto, unfolding(crate::specs::Tracks::hop_at))]
 fn hop_at<'a, B: Allocator>(
     dot: Dot,
@@ -170,7 +173,7 @@ fn is_told<'a, B: Allocator>(asked: &Bench<'a, B>, node: u16, message: u64, dot:
     !standing_sent(asked, node, message, dot).is_same(Standing::Unseen)
 }
 
-/// Whether this step of `node` may change how a dot of this name stands at `node`; false for a delivery, which `reaches`
+/// Whether this step of `node` may change how a dot of this name stands there; false for a delivery, which `reaches`
 /// looks at by itself.
 fn is_changed<A: Allocator>(step: &Step<A>, node: u16, name: u16) -> bool
     ensures { result ≡ is_changed (plain step.now) node name }

@@ -226,4 +226,9 @@ impl<'a, B: Allocator> Journal<'a, B> {
     {
         take_out(&mut self.slots, &mut self.causes, number);
     }
+
+    /// Drops the journal. A crate that calls this needs no proof of how the parts of a journal are dropped.
+    pub fn discard(self) {
+        drop(self);
+    }
 }

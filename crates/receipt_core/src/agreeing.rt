@@ -117,7 +117,8 @@ fn begins<'a, B: Allocator>(before: &History<'a, B>, after: &History<'a, B>) -> 
     true
 }
 
-/// Whether each line's actor has a list of receipts. There are `lists` of them, for the actors from 0 on.
+/// Whether each line's actor has a list of receipts. `lists` is the number of lists, which are those of the actors from
+/// 0 on.
 fn are_known<A: Allocator>(lines: &[(u16, Act<A>)], lists: usize) -> bool
     ensures { IsTrue result ↔ AllByRecursion (λ l. l.0 < lists) (calls_of lines.now) }
 {

@@ -31,8 +31,8 @@ fn named_places<A: Allocator + Copy>(
     Ok(all)
 }
 
-/// Whether no place comes twice, and each place, counted from 1, has a mark in `marks` that isn't set at the beginning.
-/// The loop sets the mark of each place that it passes.
+/// Whether each of `places` is from 1 to the length of `marks`, isn't set in `marks` yet, and comes only once. Place 1
+/// is at index 0 of `marks`.
 fn are_fresh<A: Allocator>(mut marks: Vec<bool, A>, places: &[u64]) -> bool
     ensures { IsTrue result ↔ Fresh marks.items places.now }
 {
@@ -50,7 +50,7 @@ fn are_fresh<A: Allocator>(mut marks: Vec<bool, A>, places: &[u64]) -> bool
 }
 
 /// Whether no two receipts name the same place. The caller has checked that each names a place from 1 to `length`, the
-/// length of the history. Asks for memory for a mark for each of these places.
+/// length of the history. Asks for memory for a `bool` for each of these places, and for a number for each receipt.
 pub(crate) fn none_twice<A: Allocator + Copy>(
     alloc: A,
     length: usize,

@@ -80,8 +80,8 @@ fn member<'a, B: Allocator>(
     }
 }
 
-/// Reads the members, and the brace that closes the outermost object. Puts the members into `found`, and the events of
-/// the member `acts` into `acts`; both must be empty. Of members with one name the last counts.
+/// Reads the members of the outermost object, and the brace that closes it. Puts the members into `found`, and the
+/// events of the member `acts` into the parameter `acts`; both must be empty. Of members with one name the last counts.
 fn read_members<'a, B: Allocator>(
     found: &mut Map<String, Value>,
     acts: &mut Acts<&'a B>,

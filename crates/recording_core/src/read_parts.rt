@@ -16,6 +16,7 @@ pub(crate) fn version_of(value: &Value) -> Option<u64>
     value.get("version").and_then(Value::as_u64)
 }
 
+/// The limits that the list's four numbers give; `Shape` for another list, or if a bench can't have such limits.
 #[tactic(auto, unfolding(crate::specs::Decoding::limits_at))]
 fn limits_at(list: &Value) -> Result<Limits, Unread>
     ensures { Gives (λ l. l) result (limits_at (view list.now)) }
@@ -41,6 +42,7 @@ fn texts_of(heap: Global, values: &[Value]) -> Result<Vec<&str>, Unread>
     Ok(texts)
 }
 
+/// The names that these values spell; `Shape` if one of them isn't a text, or a bench can't have these names.
 fn names_at<'a, B: Allocator>(
     heap: Global,
     alloc: &'a B,
@@ -56,6 +58,7 @@ fn names_at<'a, B: Allocator>(
     }
 }
 
+/// Whether these are the keys of a head, in the rising order in which a map gives them.
 fn are_keys(first: &str, second: &str, third: &str, fourth: &str) -> bool
     ensures { result ≡ are_keys first.now second.now third.now fourth.now }
 {

@@ -7,8 +7,8 @@ pub enum SessionFault {
     /// The bytes aren't JSON, or nest too deep.
     #[error("NotJson")]
     NotJson,
-    /// The head, or this act, doesn't have the form that it has in a session, or a text of the version can't have the
-    /// act or its reply.
+    /// The head or this act doesn't have its form in a session; or the session is of version 1, which has no such act
+    /// or no such reply.
     #[error("BadShape at act {act}")]
     BadShape { act: u64 },
     /// The number under `version` is neither 1 nor 2.

@@ -50,7 +50,7 @@ fn told_again<'a, B: Allocator>(bench: &Bench<'a, B>, alloc: &'a B) -> Result<Ve
     let mut text = String::new(alloc);
     let told = events(&mut text, &mut again, bench.history(), alloc);
     // form: drop before exit
-    drop(again);
+    again.discard();
     told?;
     Ok(text.into_bytes())
 }

@@ -48,6 +48,15 @@ impl<'a, B: Allocator> Prompt<'a, B> {
         }
     }
 
+    /// Drops the prompt. A crate that calls this needs no proof of how the parts of a prompt are dropped.
+    pub fn discard(self) {
+        let Prompt { cast, bench, .. } = self;
+        drop(cast);
+        if let Some(bench) = bench {
+            bench.discard();
+        }
+    }
+
     /// The bench; `None` until the nodes are named, and while memory for it is refused.
     pub fn bench(&self) -> Option<&Bench<'a, B>>
         ensures { option_copied result ≡ self.now.machine }
@@ -78,7 +87,9 @@ impl<'a, B: Allocator> Prompt<'a, B> {
         let names = cast.nodes().try_copy()?;
         let bench = Bench::new(self.alloc, names, self.limits)?;
         // form: an assignment would drop the old value field by field
-        drop(self.bench.replace(bench));
+        if let Some(old) = self.bench.replace(bench) {
+            old.discard();
+        }
         Ok(())
     }
 

@@ -70,7 +70,7 @@ pub fn run_script<'a, B: Allocator>(
     let mut text = String::new(alloc);
     if let Err(oom) = lines(&mut text, &mut bench, grammar_core::lines(script), alloc) {
         // form: drop before exit
-        drop(bench);
+        bench.discard();
         return Err(oom);
     }
     Ok(Played {

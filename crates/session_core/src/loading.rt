@@ -103,7 +103,7 @@ pub fn load<'a, B: Allocator>(
     let taken = take_events(&mut bench, &acts, version);
     drop(acts);
     if let Err(fault) = taken {
-        drop(bench);
+        bench.discard();
         return Err(fault);
     }
     Ok(bench)

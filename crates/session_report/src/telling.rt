@@ -112,13 +112,18 @@ pub fn report_session<'a, B: Allocator>(
         return Err(SessionFault::OutOfMemory);
     };
     let mut text = String::new(alloc);
-    tell_events(
+    let told = tell_events(
         &mut text,
         &mut bench,
         &recording.acts,
         recording.version,
         alloc,
-    )?;
+    );
+    if let Err(fault) = told {
+        // form: drop before exit
+        bench.discard();
+        return Err(fault);
+    }
     Ok(Played {
         bench,
         report: text.into_bytes(),

@@ -103,9 +103,9 @@ fn named_consoles<A: Allocator + Copy, N: Allocator>(
     Ok(consoles)
 }
 
-/// Names for the consoles of a bench, which knows its consoles by number alone. Each console, up to the one with the
-/// greatest number that asked something, gets the next name of `c1` to `c48` that no node has. If too few names are
-/// free, the last consoles get none.
+/// Names for the consoles of a bench, which knows its consoles by number alone. Each console, up to the
+/// highest-numbered one that asked something, gets the next name of `c1` to `c48` that no node has. If too few names
+/// are free, the last consoles get none.
 #[tactic(auto, unfolding(crate::specs::Actors::free_consoles))]
 pub fn free_consoles<'a, B: Allocator>(
     bench: &Bench<'a, B>,

@@ -129,7 +129,7 @@ pub fn first_refused<'a, B: Allocator>(
     let mut bench = Bench::new(alloc, names, limits)?;
     let refusal = first_from(&mut bench, lines(script), alloc);
     // form: drop before exit
-    drop(bench);
+    bench.discard();
     refusal
 }
 

@@ -40,7 +40,7 @@ fn put_each_console<A: Allocator, C: Allocator>(
     Ok(())
 }
 
-/// Appends `consoles NAME ..`, if there are any consoles.
+/// Appends the line `consoles NAME ..`, if there are any consoles.
 #[tactic(auto, unfolding(crate::specs::Scripts::consoles_text))]
 fn put_consoles<A: Allocator, C: Allocator>(
     text: &mut String<A>,

@@ -132,8 +132,8 @@ fn put_note<A: Allocator, N: Allocator, C: Allocator>(
     }
 }
 
-/// Appends the line of a call: `NUMBER  ACTOR VERB ..`, and behind that who took the call's step back later. NUMBER is
-/// that of the step that the call took or took back, or a dash if it did neither.
+/// Appends the line of a call: `NUMBER  ACTOR VERB ..`, and then who took the call's step back later, if anybody did.
+/// NUMBER is that of the step that the call took or took back, or a dash if it did neither.
 #[tactic(auto, unfolding(crate::specs::Steps::head_line))]
 fn put_head<A: Allocator, N: Allocator, C: Allocator, W: Allocator>(
     text: &mut String<A>,
@@ -408,7 +408,7 @@ fn events_anew<'a, B: Allocator>(
     let mut again = opened(names, limits, alloc)?;
     let steps = events_steps(&mut again, consoles, takers, history, alloc);
     // form: drop before exit
-    drop(again);
+    again.discard();
     steps
 }
 
@@ -433,7 +433,7 @@ pub fn script_steps<'a, B: Allocator>(
         alloc,
     );
     // form: drop before exit
-    drop(again);
+    again.discard();
     steps
 }
 

@@ -17,6 +17,7 @@ use std::alloc::Allocator;
 use std::sync::{Mutex, Wait};
 use std::thread::Threads;
 
+/// Copies of the lines, which the workers take over.
 fn copied<A: Allocator + Copy>(
     alloc: A,
     lines: &[(u16, Act<A>)],
@@ -45,8 +46,8 @@ fn asked<'a, B: Allocator + Sync, G: Gate + Sync, R: Threads + Wait + Sync>(
     (shared.into_inner(), told)
 }
 
-/// Asks the bench the lines, each actor's in their order on a thread of its own, and compares what the workers tell
-/// with the history. Actors are numbered from 0, and lines from 1. The bench comes back with a fault, too.
+/// Asks the bench the lines, those of each actor in their order and on a thread of their own, and compares what the
+/// workers tell with the history. Actors are numbered from 0, and lines from 1. The bench comes back with a fault, too.
 /// `UnknownActor` and then `NoRoom` come before anything is done; after `WorkerRefused` no line was asked;
 /// `OutOfMemory` may come before the workers start or after; `LogsDisagree` comes last. All that is promised holds if
 /// `race` returns.

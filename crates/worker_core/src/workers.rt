@@ -44,8 +44,8 @@ type Channels<L, A> = Vec<Option<Sender<Line<L>, A>>, A>;
 /// The workers, by actor; `None` for an actor without a line.
 type Workers<T, A> = Vec<Option<JoinHandle<Vec<T, A>>>, A>;
 
-/// All that workers need memory for: the slots and the channels to them, by actor, and room for the workers and
-/// their receipts.
+/// All that workers need memory for: the slots and the channels to them, by actor, and room for the workers and for the
+/// list of lists of their receipts.
 #[derive(Drop)]
 struct Prepared<L, T, A: Allocator + Clone> {
     slots: Vec<Option<Slot<L, T, A>>, A>,
