@@ -53,9 +53,9 @@ no_order_of ks c none = sym (no_order ks _ (order_of (changed ks c)) (marks_hold
 pub an_order_of : (ks : List Kept) (c : Change) (run : List Mark) → marks.order_of_marks (changed_marks ks c) ≡ Some run → order_of (changed ks c) ≡ Some (steps_at ks run)
 an_order_of ks c run some = an_order ks _ (order_of (changed ks c)) run (marks_hold ks (changed ks c) (changed_marks ks c) (changed_are ks c)) some
 
-pub before_is : (m : Machine) (q : Question) (o : Option Node) → IsNodeOf m q.node o → rows_in q o ≡ rows_before m q
+pub before_is : (m : Machine) (q : Question) (o : Option Node) → IsNodeOf m q.node o → rows_in q.topic q.key o ≡ rows_before m q
 unfolding rows_at
-before_is m q o h = ap (rows_in q) h.2 ∙ sym (ap (rows_of q) h.1)
+before_is m q o h = ap (rows_in q.topic q.key) h.2 ∙ sym (ap (rows_of q) h.1)
 
 -- copies of the steps at marks
 

@@ -16,13 +16,14 @@ pub record Question : Type 0 where
 abbrev pub is_of : List ℕ → List ℕ → Row → Bool
 is_of topic key row = bytes_eq row.topic topic && bytes_eq row.key key
 
-abbrev pub rows_in : Question → Option Node → List Row
-rows_in q None = []
-rows_in q (Some node) = filter (is_of q.topic q.key) (online_of node.replica)
+-- the rows of the topic and the key in the node's online list; none if there is no such node
+abbrev pub rows_in : List ℕ → List ℕ → Option Node → List Row
+rows_in topic key None = []
+rows_in topic key (Some node) = filter (is_of topic key) (online_of node.replica)
 
 -- the rows of the node's online list that are asked for
 unfoldable pub rows_at : Question → Cluster → List Row
-rows_at q c = rows_in q (slice_get c q.node)
+rows_at q c = rows_in q.topic q.key (slice_get c q.node)
 
 abbrev pub rows_of : Question → Result Cluster Fault → List Row
 rows_of q (Ok c) = rows_at q c

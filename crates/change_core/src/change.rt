@@ -22,7 +22,7 @@ pub enum Kind {
 }
 
 /// A change of the step at `place`, counted from 0. The step comes, or comes again, directly before or behind the step
-/// at `beside`. For a step that is left out, `beside` is `place`.
+/// at `beside`. For `Lost` and `Never`, `beside` is `place`.
 #[derive(Clone, Copy, Debug, PartialEq, Eq)]
 pub struct Change {
     pub kind: Kind,
@@ -31,7 +31,7 @@ pub struct Change {
 }
 
 impl Kind {
-    /// The place of this kind in the order in which the kinds are declared above, counted from 0.
+    /// The number of this kind, counted from 0 in the order of the declaration above.
     pub fn rank(self) -> u8
         ensures { result ≡ rank self }
     {

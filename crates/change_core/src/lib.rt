@@ -17,6 +17,6 @@ mod walk;
 
 pub use change::{Change, Kind, is_change};
 pub use playing::Search;
-pub use rows::{Rows, rows_before, rows_of};
+pub use rows::{Rows, rows_before, rows_in};
 pub use running::run_with;
 pub use steps::{Steps, copied};

@@ -159,8 +159,13 @@ fn recorded_run<W: Allocator, A: Allocator + Copy>(
 }
 
 impl<'a, B: Allocator> Search<'a, B> {
-    /// A search on a bench whose remaining steps are `steps`. `before` has the rows with the topic and key at the node
-    /// as they are on the bench.
+    /// Drops the search. A crate that calls this needs no proof of how the parts of a search are dropped.
+    pub fn discard(self) {
+        drop(self);
+    }
+
+    /// A search on a bench whose remaining steps are `steps`. `before` has the rows that are asked for, as the bench
+    /// has them: those with some topic and key in the online list of some node.
     pub fn new(
         bench: &Bench<'a, B>,
         steps: &[Kept<&'a B>],

@@ -19,7 +19,7 @@ fn is_of<A: Allocator>(row: &OnlineRow<A>, topic: &Word<A>, key: &Word<A>) -> bo
 }
 
 /// Copies of the rows with this topic and key, in the order of `rows`.
-pub fn rows_of<A: Allocator + Copy>(
+fn rows_of<A: Allocator + Copy>(
     alloc: A,
     rows: &[OnlineRow<A>],
     topic: &Word<A>,
@@ -36,17 +36,15 @@ pub fn rows_of<A: Allocator + Copy>(
     Ok(found)
 }
 
-/// The rows of the node's online list with this topic and key; none if there is no such node.
-pub(crate) fn rows_in<'a, B: Allocator>(
+/// The rows with this topic and key in the online list of the node `found`; none if that is `None`.
+pub fn rows_in<'a, B: Allocator>(
     found: Option<&Node<'a, B>>,
-    node: u16,
     topic: &Word<&'a B>,
     key: &Word<&'a B>,
     alloc: &'a B,
 ) -> Result<Rows<&'a B>, Oom>
-    ensures { IfOk result (λ rows. rows.items ≡ rows_in (record { node = node; topic = topic.now; key = key.now }) (option_map (λ n. n.now) found.entry)) }
+    ensures { IfOk result (λ rows. rows.items ≡ rows_in topic.now key.now (option_map (λ n. n.now) found.entry)) }
 {
-    // form: the parameter `node` is for the contract alone
     let Some(found) = found else {
         return Ok(Vec::new(alloc));
     };
@@ -68,7 +66,7 @@ pub(crate) fn rows_at<'a, B: Allocator>(
 ) -> Result<Rows<&'a B>, Oom>
     ensures { IfOk result (λ rows. rows.items ≡ rows_at (record { node = node; topic = topic.now; key = key.now }) cluster.now) }
 {
-    rows_in(cluster.node(node), node, topic, key, alloc)
+    rows_in(cluster.node(node), topic, key, alloc)
 }
 
 /// The rows of this node's online list with this topic and key, at the end of the recorded run; none if there is no
@@ -82,7 +80,7 @@ pub fn rows_before<'a, B: Allocator>(
 ) -> Result<Rows<&'a B>, Oom>
     ensures { IfOk result (λ rows. rows.items ≡ rows_before bench.now (record { node = node; topic = topic.now; key = key.now })) }
 {
-    rows_in(bench.node(node), node, topic, key, alloc)
+    rows_in(bench.node(node), topic, key, alloc)
 }
 
 pub(crate) fn copied_rows<A: Allocator + Copy>(

@@ -48,7 +48,7 @@ fn put_copy<A: Allocator + Copy>(
     }
 }
 
-/// Copies of the steps at the places of these marks, in the order of the marks. A place without a step is passed over.
+/// Copies of the steps at the places of these marks, in the order of the marks. Passes over a place without a step.
 pub(crate) fn copied_at<A: Allocator + Copy>(
     steps: &[Kept<A>],
     marks: &[Mark],

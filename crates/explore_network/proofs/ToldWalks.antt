@@ -23,8 +23,9 @@ use Rattle.network_core.proofs.OnlineRows.{online_rows_hold}
 use Rattle.network_core.proofs.Keys.{keeps_length}
 use Rattle.network_core.proofs.Rows.{rows_hold}
 use Rattle.network_core.proofs.Seen.{same_replica_holds}
+use Rattle.change_core.specs.Questions.{rows_in}
 use Rattle.explore_network.specs.Plans.{cone_of, walk_of, IsPlan, Plan, Wants}
-use Rattle.explore_network.specs.Questions.{node_of, replicas_in, rows_in, shown, OfCluster, OfNode, OfPresence, Question, Replicas, Rows}
+use Rattle.explore_network.specs.Questions.{node_of, replicas_in, shown, OfCluster, OfNode, OfPresence, Question, Replicas, Rows}
 use Rattle.explore_network.specs.SameShown.{same_shown}
 use Rattle.network_rules.specs.Tables.{asks, carried, is_wanted, matter, KeepsAt}
 use Rattle.explore_network.specs.Walks.{told_by, Outcome}

@@ -4,7 +4,7 @@ use Rattle.replica_core.specs.Replicas.{Replica}
 use Rattle.node_core.specs.Nodes.{Node}
 use Rattle.bench_core.specs.Clusters.{Cluster}
 use Rattle.diff_core.specs.Rows.{Row}
-use Rattle.network_core.specs.Rows.{online_rows_of}
+use Rattle.change_core.specs.Questions.{rows_in}
 use Rattle.explore_network.specs.declared.question.Question.{Question as Asked}
 use Rattle.explore_network.specs.declared.question.Question.TheVariants as questions
 
@@ -30,11 +30,6 @@ abbrev pub node_of : Question → Option ℕ
 node_of OfCluster = None
 node_of (OfNode node) = Some node
 node_of (OfPresence node topic key) = Some node
-
--- the rows of the topic and the key in the node's online list; none if there is no such node
-abbrev pub rows_in : List ℕ → List ℕ → Option Node → List Row
-rows_in topic key None = []
-rows_in topic key (Some x) = online_rows_of topic key x.replica
 
 -- the node's replica, as a list; empty if there is no such node
 abbrev pub replicas_in : Option Node → List Replica

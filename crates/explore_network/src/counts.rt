@@ -9,7 +9,7 @@ use network_rules::{Turn, count_at};
 use node_core::Oom;
 use std::alloc::Allocator;
 
-/// `count`, which says how many steps of `turn` have come, with the step `kept` counted in if the turn has it.
+/// `count`, or one more if the step `kept` is of `turn`. `count` is how many steps of the turn came before `kept`.
 fn count_with<A: Allocator>(turn: Turn, kept: &Kept<A>, count: usize) -> usize
     ensures { (w : List PlainKept) → count ≡ count_of turn w → length w + 1 < 2 ^ 64 → result ≡ count_of turn (w ++ kept.now ∷ []) }
 {
@@ -21,7 +21,7 @@ fn count_with<A: Allocator>(turn: Turn, kept: &Kept<A>, count: usize) -> usize
     }
 }
 
-/// A copy of `counts`, which say how many steps of each turn have come, with the step `kept` counted in.
+/// A copy of `counts` (how many steps of each turn have come) with the step `kept` counted in.
 pub(crate) fn counted<'a, B: Allocator>(
     kept: &Kept<&'a B>,
     turns: &[Turn],

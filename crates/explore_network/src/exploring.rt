@@ -43,6 +43,13 @@ pub struct Explored<'a, B: Allocator> {
     pub states: usize,
 }
 
+impl<'a, B: Allocator> Explored<'a, B> {
+    /// Drops the outcomes. A crate that calls this needs no proof of how the parts of an outcome are dropped.
+    pub fn discard(self) {
+        drop(self);
+    }
+}
+
 /// What `parts_of` works out for a plan: the turns and ranks of its steps, and which names matter where.
 #[derive(Drop)]
 struct Parts<'a, B: Allocator> {
@@ -51,7 +58,8 @@ struct Parts<'a, B: Allocator> {
     cone: Cone<'a, B>,
 }
 
-/// Works out the turns, ranks and cone of these steps, for this question. `count` is the number of nodes.
+/// Works out the turns of these steps, the rank of each in its turn, and the cone, for this question. `count` is the
+/// number of nodes.
 fn parts_of<'a, B: Allocator>(
     steps: &[Kept<&'a B>],
     count: u16,
@@ -82,8 +90,8 @@ fn parts_of<'a, B: Allocator>(
     Ok(Parts { turns, ranks, cone })
 }
 
-/// The plan for these steps, which make no more entries than a node may hold. `count` is the number of nodes; `lost`,
-/// `again` and `most` are those of `explore`.
+/// The plan for these steps. They must make no more entries than a node may hold. `count` is the number of nodes;
+/// `lost`, `again` and `most` are those of `explore`.
 fn plan_of<'a, B: Allocator>(
     steps: Steps<&'a B>,
     count: u16,

@@ -2,8 +2,8 @@
 //! come at other times, get lost, or come again. The crate finds the outcomes, each with a run that leads there.
 //!
 //! The crate stands on `network_rules` (which steps may come next, and the keys of states), `network_core` (what holds
-//! of such runs), `change_core` (copies of steps), `bench_core` (benches and clusters), `diff_core` (online lists) and
-//! `progress_core` (how far the walk has come). It names the plain types of the crates below.
+//! of such runs), `change_core` (copies of steps, and the rows of a topic and a key), `bench_core` (benches and
+//! clusters) and `progress_core` (how far the walk has come). It names the plain types of the crates below.
 //!
 //! The modules in reading order: `question`, `shown` and `outcome`, what counts as the same outcome; `turns`, the turn
 //! to which each step belongs, and `counts`, how many steps of each turn came; `playing`, runs that are played;
@@ -33,4 +33,3 @@ pub use explore_fault::ExploreFault;
 pub use exploring::{Explored, explore};
 pub use outcome::Outcome;
 pub use question::Question;
-pub use shown::rows_in;

@@ -25,8 +25,8 @@ pub(crate) fn played<'a, B: Allocator>(
     ensures { IfOk result (λ cluster. (end : PlainCluster) → runs limits count (steps_at steps.now path.now) ≡ Ok end → cluster ≡ end) }
 {
     let mut cluster = Cluster::new(alloc, count as usize, limits)?;
-    for turn in 0..path.len() {
-        play(&mut cluster, steps, path[turn])?;
+    for index in 0..path.len() {
+        play(&mut cluster, steps, path[index])?;
     }
     Ok(cluster)
 }

@@ -23,9 +23,9 @@ fn union(one: NameSet, other: NameSet) -> NameSet {
     names
 }
 
-// The rounds keep their sets of names in two flat lists, `matters` and `carries`, each with a row of `width` sets for
-// each node. A row of `matters` has a set for each number of own steps (all but deliveries) that the node has taken,
-// and a row of `carries` one for each message of the node.
+// The rounds keep their sets of names in two flat lists, `matters` and `carries`. Each list has `width` sets for each
+// node, here called the node's row: in `matters` a set for each number of own steps (all but deliveries) that the node
+// has taken, in `carries` one for each message of the node.
 
 /// The index of the set at `place` in a node's row. It saturates, which spares a requirement about sizes.
 fn index(width: usize, node: u16, place: usize) -> usize {
@@ -49,8 +49,8 @@ fn add(names: &mut [NameSet], index: usize, more: NameSet) -> bool {
     is_news
 }
 
-/// Adds the names that matter to `node` before its first own step to the set in `carries` of message `number` of
-/// `sender`, as the node may take the message then. Says whether any of them is new in that set.
+/// Adds the names that matter to `node` before its first own step to the set that `carries` has for message `number` of
+/// `sender`, since the node may take the message that early. Says whether any of these names is new in the set.
 fn widen_message(
     matters: &[NameSet],
     carries: &mut [NameSet],
@@ -65,8 +65,8 @@ fn widen_message(
     add(carries, index(width, sender, place), names)
 }
 
-/// Adds the names that matter to the node after the own step `kept`, and those that the step takes into its message
-/// (see `said`), to the set in `matters` before the step. Says whether any of them is new in that set.
+/// Adds two kinds of names to the set that `matters` has for the node before its own step `kept`: those that matter to
+/// the node after the step, and those that `said` gives for the step's message. Says whether any of them is new there.
 fn widen_node<A: Allocator>(
     matters: &mut [NameSet],
     carries: &[NameSet],
@@ -232,8 +232,9 @@ fn rows_found<'a, B: Allocator>(
     Ok(Found { matters, carries })
 }
 
-/// The cone of these dots, for a question about the node `asked`, or about all nodes if `asked` is `None`. `count` is
-/// the number of nodes.
+/// The cone of these dots, for a question about the node `asked`, or about all nodes if `asked` is `None`: the names
+/// that matter at each node and in each message, as the rounds found them. In it all names matter if the rounds left
+/// any out, which `cone_of` checks. `count` is the number of nodes.
 pub(crate) fn cone_for<'a, B: Allocator>(
     steps: &[Kept<&'a B>],
     dots: Vec<Dot, &'a B>,

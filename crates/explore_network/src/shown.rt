@@ -1,34 +1,16 @@
 //! Whether two clusters show the same to a question.
 ghost use Rattle.std.specs.Prelude.{◌≡◌, ◌↔◌, ◌≤◌, IfOk, IsTrue, length, map, option_map, slice_get};
-ghost use Rattle.explore_network.specs.Questions.{plain, replicas_in, rows_in, shown};
+ghost use Rattle.change_core.specs.Questions.{rows_in};
+ghost use Rattle.explore_network.specs.Questions.{plain, replicas_in, shown};
 ghost use Rattle.explore_network.specs.SameShown.{same_rows};
 
 use crate::question::Question;
 use bench_core::{Cluster, Node};
-use change_core::{Rows, rows_of};
-use diff_core::{OnlineRow, online_list};
+use change_core::rows_in;
+use diff_core::OnlineRow;
 use node_core::Oom;
 use payload_core::Word;
 use std::alloc::Allocator;
-
-/// The rows of the node's online list with this topic and key; none if there is no such node.
-pub fn rows_in<'a, B: Allocator>(
-    found: Option<&Node<'a, B>>,
-    topic: &Word<&'a B>,
-    key: &Word<&'a B>,
-    alloc: &'a B,
-) -> Result<Rows<&'a B>, Oom>
-    ensures { IfOk result (λ rows. rows.items ≡ rows_in topic.now key.now (option_map (λ n. n.now) found.entry)) }
-{
-    let Some(found) = found else {
-        return Ok(Vec::new(alloc));
-    };
-    let listed = online_list(alloc, found.replica())?;
-    let rows = rows_of(alloc, listed.as_slice(), topic, key);
-    // form: drop before exit
-    drop(listed);
-    rows
-}
 
 /// Whether both lists have the same rows in the same order.
 fn same_rows<A: Allocator>(rows: &[OnlineRow<A>], others: &[OnlineRow<A>]) -> bool

@@ -28,8 +28,8 @@ fn find<A: Allocator>(turns: &[Turn], kept: &Kept<A>) -> Option<usize>
     None
 }
 
-/// The turn of a node's own steps if `delivers` is `None`, or else of the deliveries of that message at the node. As
-/// `recorded` it has how many of `steps` belong to it.
+/// The turn of the deliveries of the message `delivers` at `node`; if `delivers` is `None`, that of the node's own
+/// steps. Its `recorded` is how many of `steps` belong to it.
 fn turn_of<A: Allocator>(steps: &[Kept<A>], node: u16, delivers: Option<(u16, u64)>) -> Turn
     ensures { result ≡ turn_of steps.now node delivers }
 {
@@ -45,8 +45,8 @@ fn turn_of<A: Allocator>(steps: &[Kept<A>], node: u16, delivers: Option<(u16, u6
     }
 }
 
-/// Appends the turn of the step `kept` to `turns`, unless it is there already. The steps of the turn are counted among
-/// `steps`.
+/// Appends the turn of the step `kept` to `turns`, unless it is there already. Its `recorded` is how many of `steps`
+/// belong to it.
 fn note<'a, B: Allocator>(
     turns: &mut Vec<Turn, &'a B>,
     steps: &[Kept<&'a B>],
@@ -104,8 +104,8 @@ pub(crate) fn sent<A: Allocator>(steps: &[Kept<A>], node: u16) -> usize
         .count()
 }
 
-/// The rank of the step `kept`, which comes right after the steps `done`. A turn that isn't among `turns` has the place
-/// 0.
+/// The rank of the step `kept`; `done` are all recorded steps before it. If the step's turn isn't among `turns`, the
+/// rank has place 0 for the turn.
 fn rank_of<A: Allocator>(turns: &[Turn], done: &[Kept<A>], kept: &Kept<A>) -> Rank
     requires { length done.now + 1 < 2 ^ 64 }
     ensures { result ≡ rank_of turns.now done.now kept.now }

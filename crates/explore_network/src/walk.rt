@@ -1,4 +1,5 @@
-//! `Walk`: the walk over all runs of the network, depth first.
+//! `Walk`: the walk over all runs of the network, depth first. In its functions `counts` says how many steps of each
+//! turn came, and at most `left` steps can follow.
 ghost use Rattle.std.specs.Prelude.{◌≡◌, ◌<◌, ◌≤◌, ◌+◌, ◌^◌, ◌++◌, ◌∷◌, [], ℕ, List, IfErr, IfOk, OnOk, Ok, Some, length, slice_get, true};
 ghost use Rattle.replica_core.specs.Limits.{AreNodeLimits};
 ghost use Rattle.bench_core.specs.Clusters.{Cluster as PlainCluster};
@@ -122,8 +123,9 @@ fn key_at<'a, B: Allocator>(
     )
 }
 
-/// Goes on after the step `kept`, which was just taken and stands at `place`: puts the place on the path, visits the
-/// state after the step unless `left` is 0, and takes the place off the path again.
+/// Goes on after the step `kept`, which stands at `place` and was just taken: puts the place on the path, visits the
+/// state after the step unless `left` is 0, and takes the place off the path again. `counts` and `left` are those
+/// before the step.
 #[cycle(visit)]
 fn onward<'a, B: Allocator, W: Watch<Walked>>(
     tour: &Tour<'a, '_, B>,
@@ -297,8 +299,8 @@ fn tell_all<'a, B: Allocator, W: Watch<Walked>>(
     go_on(tour, walk, counts, left, watch)
 }
 
-/// Adds the outcomes of all runs that go on from where the walk stands, and puts the key of this state into the table;
-/// does nothing if the key is there already. `TooManyStates` if the table then has more keys than the plan allows.
+/// Does what `tell_all` does, and then puts the key of this state into the table; does nothing if the key is there
+/// already. `TooManyStates` if the table then has more keys than the plan allows.
 #[cycle(visit)]
 fn tell_once<'a, B: Allocator, W: Watch<Walked>>(
     tour: &Tour<'a, '_, B>,
@@ -332,8 +334,7 @@ fn tell_once<'a, B: Allocator, W: Watch<Walked>>(
 }
 
 /// Adds the outcomes of all runs that go on from where the walk stands, and leaves the cluster and the path unchanged;
-/// after a `Stop` cluster and path are those at which the walk ended. `counts` has how many steps of each turn came,
-/// and at most `left` steps can follow. Tells `watch` how far the walk has come.
+/// after a `Stop` cluster and path are those at which the walk ended. Tells `watch` how far the walk has come.
 #[cycle(visit)]
 pub(crate) fn visit<'a, B: Allocator, W: Watch<Walked>>(
     tour: &Tour<'a, '_, B>,

@@ -7,7 +7,8 @@ use Rattle.bench_core.specs.NameList.{Texts}
 use Rattle.report_core.specs.Dots.{dots_text}
 use Rattle.report_core.specs.Rows.{name_at, online_text, row_lines}
 use Rattle.report_core.specs.Shown.{rows_in as listed_in}
-use Rattle.explore_network.specs.Questions.{rows_in, Question, OfCluster, OfNode, OfPresence}
+use Rattle.change_core.specs.Questions.{rows_in}
+use Rattle.explore_network.specs.Questions.{Question, OfCluster, OfNode, OfPresence}
 use Rattle.explore_network.specs.Walks.{steps_at, Outcome}
 use Rattle.transcript_core.specs.Runs.{run_text, step_line}
 

@@ -1,4 +1,4 @@
-//! Answers what the network could have made of a run, for a question in words.
+//! Tells what the network could have made of a run, for a question that gives node, topic and key as texts.
 ghost use Rattle.std.specs.Prelude.{◌≡◌, ◌≤◌, IfErr, IfOk, length, option_map, string_bytes};
 ghost use Rattle.payload_core.specs.Messages.{numbered};
 ghost use Rattle.explore_network.specs.Questions.{plain, IsThere};
@@ -57,7 +57,7 @@ pub fn explore_asked<'a, B: Allocator, W: Watch<Walked>>(
     let explored = explored(bench, &asked, question, alloc, watch)?;
     let text = tell(bench, &asked, &explored, alloc);
     // form: drop before exit
-    drop(explored);
+    explored.discard();
     drop(asked);
     Ok(text?)
 }
@@ -92,10 +92,10 @@ pub fn run_of_outcome<'a, B: Allocator, W: Watch<Walked>>(
     drop(asked);
     let Some(outcome) = outcome_at(explored.outcomes.as_slice(), number) else {
         let outcomes = explored.outcomes.len();
-        drop(explored);
+        explored.discard();
         return Err(ReportFault::NoSuchOutcome { outcomes });
     };
     let text = script_of(bench, outcome.run(), alloc);
-    drop(explored);
+    explored.discard();
     Ok(text?)
 }

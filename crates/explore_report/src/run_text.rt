@@ -43,8 +43,8 @@ fn put_steps<'a, A: Allocator, N: Allocator, B: Allocator>(
     Ok(())
 }
 
-/// Appends the run of the remaining steps at these places: the line that names the nodes, and a line for each step, all
-/// of them after `indent`.
+/// Appends the run of the remaining steps at these places: the line that names the nodes, and a line for each step.
+/// Each line begins with `indent`.
 #[tactic(auto, unfolding(transcript_core::specs::Runs::run_text))]
 pub(crate) fn put_run<'a, A: Allocator, B: Allocator>(
     bench: &Bench<'a, B>,

@@ -1,11 +1,13 @@
 //! What an outcome shows to the question.
 ghost use Rattle.std.specs.Prelude.{◌≡◌, ◌++◌, IfOk, OnOk, codes, length, option_map, string_bytes};
-ghost use Rattle.explore_network.specs.Questions.{plain, rows_in};
+ghost use Rattle.change_core.specs.Questions.{rows_in};
+ghost use Rattle.explore_network.specs.Questions.{plain};
 ghost use Rattle.report_core.specs.Rows.{row_lines};
 ghost use Rattle.explore_report.specs.Texts.{node_text, nodes_text, shown_text};
 
 use bench_core::{Cluster, Names, Node};
-use explore_network::{Question, rows_in};
+use change_core::rows_in;
+use explore_network::Question;
 use payload_core::{Oom, Word};
 use report_core::{list_of, put_dots, put_online, put_rows};
 use std::alloc::Allocator;

@@ -36,8 +36,10 @@ pub fn easy_law()
     ensures in_network_runs { EagerStepLaw }
 {}
 
-/// If what matters after a step comes from what matters before it, clusters that are alike in the dots that matter
-/// refuse the same steps, `EntriesFull` apart, and are alike again after each step that both take.
+/// Let what matters after a step come from what matters before it. Then two clusters that are alike in the dots that
+/// matter both take the step and are alike again, or both refuse it with the same fault, or one refuses it as
+/// `EntriesFull`. So if one of them takes several such steps in turn, the other takes them, too, and both end alike,
+/// unless the other refuses one as `EntriesFull`.
 pub fn alike_law()
     ensures step { StepLaw }
     ensures steps { StepsLaw }
@@ -68,11 +70,11 @@ pub fn rows_law()
 {}
 
 /// If what matters after each step of the recorded run comes from what matters before the step, the same is true of
-/// each run of the network. Let, besides, the recorded run make no more entries than a node may hold. Then one
-/// beginning of a run serves for another if the same steps are left to take after both and the clusters are alike: for
-/// each run with the other beginning, some run with this one ends in an alike cluster. And a delivery that is accepted,
-/// brings nothing that matters and came less often than it was recorded can come at once: some run that goes on with
-/// the delivery ends in an alike cluster. Without these conditions, a node's next step can come at once if it is
+/// each run of the network. Let the recorded run also make no more entries than a node may hold. Then one beginning of
+/// a run serves for another if the same steps are left to take after both and the clusters are alike: for each run with
+/// the other beginning, some run with this one ends in an alike cluster. And a delivery can come at once if it is
+/// accepted, brings nothing that matters, and came less often than it was recorded: some run that goes on with the
+/// delivery ends in an alike cluster. Even without these conditions, a node's next step can come at once if it is
 /// accepted and nothing more is delivered at the node: the cluster at the end is the same.
 pub fn cone_law()
     ensures passes { ConeLaw }
@@ -81,7 +83,7 @@ pub fn cone_law()
     ensures alone { AloneLaw }
 {}
 
-/// If each node took the same steps, deliveries apart, in two runs, and the dots that matter stand the same at both
+/// If each node took the same steps other than deliveries in two runs, and the dots that matter stand the same at both
 /// ends, the clusters there are alike.
 pub fn keys_law()
     ensures { StandAlikeLaw }
@@ -89,19 +91,21 @@ pub fn keys_law()
 
 /// Call a beginning of a run settled if each run of the network that begins so ends in an outcome that was found. Let
 /// the recorded run make no more entries than a node may hold, let what matters after each of its steps come from what
-/// matters before the step, and of two alike ends let both or neither count as found. Then a beginning is settled if it
-/// is with one more step that can come at once (see `easy_law` and `cone_law`); or if another beginning that serves for
-/// it is; or if it is with each step that can come next, and its own cluster counts as found where a run may end there.
-/// A run of the network has at most as many steps as the recorded run, and one more for each delivery that may come a
-/// second time.
+/// matters before the step, and of two alike ends let both or neither count as found. Then a beginning is settled in
+/// each of these cases: it is settled with one more step, and that step can come at once (see `easy_law` and
+/// `cone_law`); another beginning serves for it, and that one is settled; or it is settled with each accepted step that
+/// can come next, and its own cluster counts as found if a run may end there. If the last step is a delivery, the
+/// step's number makes no difference. A run of the network has at most as many steps as the recorded run, and one more
+/// for each delivery that may come a second time.
 pub fn settle_law()
     ensures settled { SettleLaw }
     ensures length { LengthLaw }
 {}
 
-/// Let a delivery of some message at a node come next in a run. Then one was recorded, and fewer than twice the
-/// recorded ones have come before; fewer than the recorded ones, if none may come a second time. Where all recorded
-/// deliveries at a node have come, and none may come a second time, nothing more is delivered.
+/// Let a delivery of a message at a node come next in a run of the network, and let the recorded run have n deliveries
+/// of that message at that node. Then n is at least 1, and fewer than 2n of them came before; fewer than n, if none may
+/// come a second time. If all recorded deliveries at a node have come, and none may come a second time, nothing more is
+/// delivered there; nor if none was recorded there.
 pub fn next_law()
     ensures quiet { QuietLaw }
     ensures next { NextDeliveryLaw }

@@ -42,7 +42,7 @@ impl<'a, B: Allocator> Model for Cone<'a, B> {
     ghost view = { λ c. record { dots = c.dots.items; matters = map (λ row. row.items) c.matters.items; carries = map (λ row. row.items) c.carries.items } };
 }
 
-/// The names at `place` in the row; those at its last place if the row is shorter; all names if it is empty.
+/// The names at `place` in a node's list; those at its last place if the list is shorter; all names if it is empty.
 fn in_row(row: &[NameSet], place: usize) -> NameSet
     ensures { result ≡ in_row (Some row.now) place }
 {
@@ -55,7 +55,7 @@ fn in_row(row: &[NameSet], place: usize) -> NameSet
     }
 }
 
-/// Like `in_row`, for the row of `node`; all names if the node has no row.
+/// Like `in_row`, for the list of `node`; all names if the node has no list.
 fn names_at<A: Allocator>(rows: &[Vec<NameSet, A>], node: usize, place: usize) -> NameSet
     ensures { result ≡ names_at (map (λ row. row.items) rows.now) node place }
 {
@@ -65,9 +65,8 @@ fn names_at<A: Allocator>(rows: &[Vec<NameSet, A>], node: usize, place: usize) -
     }
 }
 
-/// Of the names `carried`, which matter in the message that a step sends, those whose dots the step takes from what its
-/// node has seen. For an extract these are those of `carried` that the extract names, for an answer all of `carried`,
-/// and for other steps none.
+/// `carried` are the names that matter in the message that a step sends. This gives those of them whose dots the step
+/// may take from what its node has seen: for an extract those that it names, for an answer all, for other steps none.
 pub fn said<A: Allocator>(step: &Step<A>, carried: NameSet) -> NameSet
     ensures { (q : ℕ) → contains carried q ≡ true → says (plain step.now) q ≡ true → contains result q ≡ true }
 {
@@ -89,8 +88,8 @@ impl<'a, B: Allocator> Cone<'a, B> {
         self.dots.as_slice()
     }
 
-    /// The names that matter to a node once it has taken `taken` of its own steps, as `names_at` finds them: all names
-    /// if the cone has no row of the node.
+    /// The names that matter to a node after `taken` of its own steps, as `names_at` finds them: all names if the cone
+    /// has no list for the node.
     pub fn matter(&self, node: u16, taken: usize) -> NameSet
         ensures { result ≡ matter self.now node taken }
     {
@@ -98,7 +97,7 @@ impl<'a, B: Allocator> Cone<'a, B> {
     }
 
     /// The names that matter in the node's message with this number, counted from 1, as `names_at` finds them: all
-    /// names if the cone has no row of the node.
+    /// names if the cone has no list for the node.
     pub fn carried(&self, node: u16, number: u64) -> NameSet
         ensures { result ≡ carried self.now node number }
     {
@@ -119,8 +118,8 @@ impl<'a, B: Allocator> Cone<'a, B> {
     }
 
     /// Whether the cone leaves out no name at this step. At a delivery, the names that matter to the node before its
-    /// first own step must matter in the message. At an own step, the names that matter in the step's message, and
-    /// whose dots the step takes from what the node has seen (see `said`), must matter to the node before the step.
+    /// first own step must matter in the message. At an own step, the names that `said` gives of those that matter in
+    /// the step's message must matter to the node before the step.
     fn keeps_at<A: Allocator>(&self, kept: &Kept<A>, rank: Rank) -> bool
         ensures { IsTrue result → KeepsAt self.now kept.now rank }
     {
@@ -163,7 +162,7 @@ impl<'a, B: Allocator> Cone<'a, B> {
     }
 
     /// Whether each name that matters at some place also matters wherever its dots can come from (`falls` and
-    /// `keeps_all`). Whether what is asked about matters at the end is looked at by itself (`is_asked_at`).
+    /// `keeps_all`). `is_asked_at` looks at what must matter at the end.
     fn is_closed<A: Allocator>(&self, steps: &[Kept<A>], ranks: &[Rank]) -> bool
         ensures { IsTrue result → IsClosed steps.now ranks.now self.now }
     {
@@ -234,7 +233,7 @@ fn have_all(dots: &[Dot], names: NameSet) -> bool
     true
 }
 
-/// Whether each row falls (see `is_falling`).
+/// Whether each node's list falls (see `is_falling`).
 fn are_falling<A: Allocator>(rows: &[Vec<NameSet, A>]) -> bool
     ensures { IsTrue result → (n p : ℕ) → Within (names_at (map (λ row. row.items) rows.now) n (suc p)) (names_at (map (λ row. row.items) rows.now) n p) }
 {
@@ -246,7 +245,7 @@ fn are_falling<A: Allocator>(rows: &[Vec<NameSet, A>]) -> bool
     true
 }
 
-/// Whether the row falls: each set of names has all names of the next one.
+/// Whether a node's list falls: each set of names has all names of the next one.
 fn is_falling(row: &[NameSet]) -> bool
     ensures { IsTrue result → (p : ℕ) → Within (in_row (Some row.now) (suc p)) (in_row (Some row.now) p) }
 {

@@ -1,11 +1,11 @@
-//! The rules of runs of the network: which steps may come next, with which of these a walk can go on alone and miss
-//! nothing, which names matter where, and the key of a state, which decides what can follow that state. A walk over
+//! The rules of runs of the network: which steps may come next; which of these a walk may take alone and still miss
+//! nothing; which names matter where; and the key of a state, which decides what can follow that state. A walk over
 //! such runs asks these rules.
 //!
 //! The crate stands on `network_core` (what holds of such runs) and on `bench_core` (clusters), and names the plain
 //! types of the crates below. The modules in reading order: `turn`, the turns to which steps belong; `next`, what may
-//! come next; `names`, sets of names; `cone`, which names matter where; `key`, the key of a state; `first`, what can be
-//! taken first; `path`, the run of an outcome.
+//! come next; `names`, sets of names; `cone`, which names matter where; `key`, the key of a state; `first`, which
+//! step may be taken without trying the others; `path`, the run of an outcome.
 #![tactic(auto)]
 
 mod cone;

@@ -17,7 +17,7 @@ pub fn all_names() -> NameSet
     names
 }
 
-/// `names`, to which `name` is added if `wanted`.
+/// `names`, with `name` added to them if `wanted` is true.
 fn with_if(names: NameSet, name: u16, wanted: bool) -> NameSet
     requires { name < 32 }
     ensures { result ≡ (if wanted then set.insert names name else names) }

@@ -84,10 +84,10 @@ pub fn is_end(turns: &[Turn], counts: &[usize], lost: usize, again: usize) -> bo
     is_whole(turns, counts) && few_missing(turns, counts, lost) && few_extra(turns, counts, again)
 }
 
-/// Whether a step of `turn` may come next that has `before` recorded steps of the turn before it, if `count` steps of
-/// the turn came. The first recorded step that hasn't come may. Once all recorded deliveries of the turn came, the
-/// first of them may come again, and stands for each of them, as all deliver the same message; but only while not all
-/// of this turn, and fewer than `again` of all turns, came a second time.
+/// Whether the step of `turn` that has `before` recorded steps of the turn before it may come next, after `count` steps
+/// of the turn came. The first recorded step that hasn't come may. Once all recorded deliveries of the turn came, the
+/// first of them may come again, and stands for each of them, as all deliver the same message; but not once all
+/// deliveries of this turn, or `again` deliveries of all turns together, came a second time.
 fn is_next_by(
     turns: &[Turn],
     counts: &[usize],

@@ -4,7 +4,7 @@ ghost use Rattle.std.specs.Prelude.{◌≡◌, ◌++◌, ◌∷◌, [], IfOk, On
 use node_core::Oom;
 use std::alloc::Allocator;
 
-/// Appends the place of a step, which is the run's next, to the path.
+/// Appends the place of the run's next step to the path.
 pub fn extend<A: Allocator>(path: &mut Vec<usize, A>, place: usize) -> Result<(), Oom>
     ensures { OnOk result (path.new.items ≡ path.old.items ++ place ∷ []) }
 {
@@ -12,7 +12,7 @@ pub fn extend<A: Allocator>(path: &mut Vec<usize, A>, place: usize) -> Result<()
     Ok(())
 }
 
-/// A copy of the path, which is the run of an outcome.
+/// A copy of the path, as the run of an outcome.
 pub fn run_of<'a, B: Allocator>(path: &[usize], alloc: &'a B) -> Result<Vec<usize, &'a B>, Oom>
     ensures { IfOk result (λ run. run.items ≡ path.now) }
 {

@@ -98,7 +98,7 @@ fn next_place(marks: &[Mark], stands: &[Stand]) -> usize
     least
 }
 
-/// Whether each message is sent before it is delivered if the steps come in the order in which they stand.
+/// Whether each message is sent before it is delivered, if the steps come in the order of `marks`.
 fn is_behind<A: Allocator>(alloc: A, marks: &[Mark]) -> Result<bool, Oom>
     ensures { IfOk result (λ behind. behind ≡ true → order_of_marks marks.now ≡ Some marks.now) }
 {

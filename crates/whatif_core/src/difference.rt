@@ -1,5 +1,5 @@
-//! `Difference`: changes of the same step and kind that lead to the same rows; and `Tally`, what the changes tried so
-//! far come to.
+//! `Difference`: changes of the same step and kind that lead to the same rows; and `Tally`, the counts and differences
+//! of the changes tried so far.
 ghost use Rattle.std.specs.Prelude.{◌≡◌, ◌<◌, ◌+◌, ◌==◌, ◌&&◌, OnOk, option_map};
 ghost use Rattle.whatif_core.specs.Differences.{are_same, counted, is_with, nearest_change, nothing, place_with, told_too};
 
@@ -9,13 +9,13 @@ use payload_core::Oom;
 use std::alloc::Allocator;
 use std::marker::Model;
 
-/// Changes of the same step and kind that lead to the same rows, which are others than those of the recorded run.
+/// Changes of the same step and kind that lead to the same rows, which differ from those of the recorded run.
 #[derive(Drop)]
 pub struct Difference<A: Allocator> {
     pub kind: Kind,
     /// The place of the step among those that remain, counted from 0.
     pub place: usize,
-    /// The places beside which the step comes, nearest first; only the step's own place if the step is left out.
+    /// The places beside which the step comes, nearest first; for `Lost` and `Never`, the step's own place alone.
     pub besides: Vec<usize, A>,
     pub rows: Vec<OnlineRow<A>, A>,
 }
@@ -46,7 +46,7 @@ impl<A: Allocator> Difference<A> {
     }
 }
 
-/// What the changes tried so far come to: how many are possible, how many make a difference, and the differences.
+/// Of the changes tried so far: how many are possible, how many make a difference, and the differences.
 #[derive(Drop)]
 pub(crate) struct Tally<A: Allocator> {
     pub(crate) possible: usize,

@@ -17,7 +17,7 @@ use payload_core::{Oom, Word};
 use progress_core::{Tried, Watch};
 use std::alloc::Allocator;
 
-/// What `whatif` found: the rows as they are, how many changes it tried, and those that make a difference.
+/// What `whatif` found: the rows without a change, how many changes it tried, and those that make a difference.
 #[derive(Drop)]
 pub struct Differences<A: Allocator> {
     /// The rows with the topic and key that the node shows at the end of the recorded run.
@@ -33,8 +33,8 @@ pub struct Differences<A: Allocator> {
     pub told: Vec<Difference<A>, A>,
 }
 
-/// Finds the rows to which each of the changes `tried` leads, and counts the change in the tally by these rows. Tells
-/// `watch` after each change how many were tried.
+/// Lets `search` find the rows to which each change in `tried` leads, and counts the change in the tally by these rows.
+/// Tells `watch` after each change how many were tried.
 fn count_all<'a, B: Allocator, W: Watch<Tried>>(
     tally: &mut Tally<&'a B>,
     search: &mut Search<'a, B>,
@@ -69,7 +69,7 @@ fn count_all<'a, B: Allocator, W: Watch<Tried>>(
     Ok(())
 }
 
-/// Tries the changes `tried` in turn on a new search, and gives how many are possible, how many make a difference to
+/// Tries the changes in `tried` in turn on a new search, and gives how many are possible, how many make a difference to
 /// the rows `before`, and the differences. Tells `watch` after each change how many were tried.
 fn tally_of<'a, B: Allocator, W: Watch<Tried>>(
     bench: &Bench<'a, B>,
@@ -104,7 +104,7 @@ fn tally_of<'a, B: Allocator, W: Watch<Tried>>(
         watch,
     );
     // form: drop before exit
-    drop(search);
+    search.discard();
     if counted.is_err() {
         drop(tally);
         return Err(Oom);

@@ -8,8 +8,8 @@ ghost use Rattle.whatif_core.specs.Exact.{AreAllChanges, AreExactly, ToldRunsLaw
 ghost use Rattle.change_core.specs.Questions.{Question};
 
 /// `changes` gives all changes that can be made to a run, and `whatif` exactly those that make a difference. For each
-/// difference that is told, the run with the nearest of its changes has an order in which no message comes before it is
-/// sent.
+/// difference that `whatif` tells, the run with the nearest of its changes has an order in which no message comes
+/// before it is sent.
 pub fn exact_law()
     ensures changes { (ks : List Kept) → AreAllChanges ks (changes ks) }
     ensures exactly { (m : Machine) (q : Question) → AreExactly m q (tally_of m q).told }

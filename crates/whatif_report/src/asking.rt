@@ -45,7 +45,7 @@ pub fn whatif_asked<'a, B: Allocator, W: Watch<Tried>>(
     Ok(tell(bench, node, &topic, &key, alloc, watch)?)
 }
 
-/// The nearest of the changes that have this number in the text, counted from 1; `None` if none has.
+/// The nearest change of the difference with this number in the text, counted from 1; `None` if there is none.
 fn change_at<A: Allocator>(told: &[Difference<A>], number: u64) -> Option<Change>
     ensures { result ≡ option_map nearest_change (numbered told.now number) }
 {
@@ -79,8 +79,8 @@ fn script_with<'a, B: Allocator>(
     }
 }
 
-/// The run with the nearest of the changes that have this number in the text, as a script that plays it. `NoSuchNode`
-/// and `NoWord` as in `whatif_asked`, and else `NoSuchChange` if no change has the number.
+/// The run with the change that has this number in the text, as a script that plays the run; of changes told together,
+/// the nearest. `NoSuchNode` and `NoWord` as in `whatif_asked`; then `NoSuchChange` if no change has the number.
 pub fn run_with_change<'a, B: Allocator, W: Watch<Tried>>(
     bench: &Bench<'a, B>,
     alloc: &'a B,

@@ -53,7 +53,7 @@ fn kind_word(kind: Kind) -> &'static str
     }
 }
 
-/// Appends ` before ` or ` behind ` and the step at `beside`; nothing for a kind that leaves the step out.
+/// Appends ` before ` or ` behind ` and the step at `beside`; nothing for `Lost` and `Never`.
 fn put_side<'a, A: Allocator, N: Allocator, B: Allocator>(
     journal: &Journal<'a, B>,
     text: &mut String<A>,
@@ -155,7 +155,8 @@ fn rows_alone<A: Allocator + Copy>(
     Ok(found)
 }
 
-/// Appends the text of a difference: its line, and the rows that its changes take away and bring.
+/// Appends the text of a difference: its line, and the rows that its changes take away and bring. `before` has the rows
+/// at the end of the recorded run.
 #[tactic(auto, unfolding(crate::specs::Texts::difference_text))]
 pub(crate) fn put_difference<'a, A: Allocator, N: Allocator, B: Allocator>(
     journal: &Journal<'a, B>,
