@@ -21,7 +21,7 @@ use std::alloc::Allocator;
 pub enum Command<A: Allocator> {
     /// An act that this actor asks for.
     Call(u16, Act<A>),
-    /// The undo, by this actor, of the step with this number and of all that follows from it.
+    /// An unwind that this actor asks for: the undo of the step with this number, and of all that follows from it.
     Unwind(u16, u64),
     /// The online list of a node.
     Show(u16),
@@ -33,7 +33,7 @@ pub enum Command<A: Allocator> {
     Journal,
 }
 
-/// The command of a line of `actor` with `verb` and the words `args` behind the verb; or the fault of these words.
+/// What `actor` asks for with `verb` and `args`, the words behind the verb; or the fault of `args`.
 #[tactic(auto, unfolding(crate::specs::Grammar::verb_line))]
 fn verb_line<A: Allocator + Copy>(
     alloc: A,
@@ -65,7 +65,8 @@ fn verb_line<A: Allocator + Copy>(
 }
 
 /// The command of an actor's line, whose words after the actor's name are `words`. `WrongCount` if there are none,
-/// `UnknownWord` if the first isn't a verb, `NotAllowed` if a console uses a node's verb.
+/// `UnknownWord` if the first isn't a verb, `NotAllowed` if a console uses a node's verb; else the fault of the words
+/// behind the verb.
 #[tactic(auto, unfolding(crate::specs::Grammar::actor_line))]
 fn actor_line<A: Allocator + Copy>(
     alloc: A,
@@ -86,6 +87,7 @@ fn actor_line<A: Allocator + Copy>(
     verb_line(alloc, cast.nodes(), actor, verb, args)
 }
 
+/// Reads a line `journal`; `words` are the words behind that one. `WrongCount` if there are any.
 #[tactic(auto, unfolding(crate::specs::Grammar::journal_of))]
 fn journal_of<A: Allocator>(words: &[&str]) -> Result<Command<A>, FaultKind>
     ensures { Meets plain_command result (journal_of (map (λ word. word.now) words.now)) }

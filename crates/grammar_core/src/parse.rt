@@ -58,7 +58,7 @@ fn read_significant<A: Allocator + Copy>(
     Ok(())
 }
 
-/// Reads a line into `reading`, from its words. Skips a comment, and a line without words. A fault leaves `reading`
+/// Reads the line with these words into `reading`. Skips a comment, and a line without words. A fault leaves `reading`
 /// unchanged.
 #[tactic(auto, unfolding(crate::specs::Grammar::with_words))]
 fn read_words<A: Allocator + Copy>(

@@ -16,6 +16,7 @@ use dots_core::NameSet;
 use payload_core::{Word, WordFault};
 use std::alloc::Allocator;
 
+/// The number of the node called `name`; `BadName` if no node is called so.
 #[tactic(auto, unfolding(crate::specs::Grammar::node_at))]
 fn node_at<A: Allocator>(nodes: &Names<A>, name: &str) -> Result<u16, FaultKind>
     ensures gives { Meets (λ node. node) result (node_at nodes.now name.now) }
@@ -26,6 +27,7 @@ fn node_at<A: Allocator>(nodes: &Names<A>, name: &str) -> Result<u16, FaultKind>
     nodes.number_of(name).ok_or(FaultKind::BadName)
 }
 
+/// The number that `digits` spell; `BadNumber` if they spell none.
 #[tactic(auto, unfolding(crate::specs::Grammar::number_at))]
 fn number_at(digits: &str) -> Result<u64, FaultKind>
     ensures { Meets (λ number. number) result (number_at digits.now) }
@@ -82,8 +84,8 @@ fn presence_with<A: Allocator + Copy>(
     })
 }
 
-/// Reads a presence: `PID TOPIC KEY META`. `WrongCount` unless there are four words, or else the fault of the first
-/// word that is wrong.
+/// Reads a presence: `PID TOPIC KEY META`. `WrongCount` unless there are four words; of four words, the fault of the
+/// first that is wrong.
 #[tactic(auto, unfolding(crate::specs::Grammar::presence_of))]
 fn presence_of<A: Allocator + Copy>(alloc: A, args: &[&str]) -> Result<Presence<A>, FaultKind>
     requires { IsTrue (list_all is_visible (map (λ word. word.now) args.now)) }
@@ -143,8 +145,8 @@ fn leave_with<A: Allocator + Copy>(
     Ok(Step::Leave { pid, topic, key })
 }
 
-/// Reads a leave: `PID TOPIC KEY`. `WrongCount` unless there are three words, or else the fault of the first word that
-/// is wrong.
+/// Reads a leave: `PID TOPIC KEY`. `WrongCount` unless there are three words; of three words, the fault of the first
+/// that is wrong.
 #[tactic(auto, unfolding(crate::specs::Grammar::leave_of))]
 pub fn leave_of<A: Allocator + Copy>(alloc: A, args: &[&str]) -> Result<Step<A>, FaultKind>
     requires { IsTrue (list_all is_visible (map (λ word. word.now) args.now)) }
@@ -180,7 +182,7 @@ pub fn one_node<A: Allocator>(nodes: &Names<A>, args: &[&str]) -> Result<u16, Fa
     node_at(nodes, name)
 }
 
-/// Reads a leave all, of every entry of a process: `PID`, with the faults of `one_number`.
+/// Reads a leave all, by which a process leaves under all its topics and keys: `PID`, with the faults of `one_number`.
 #[tactic(auto, unfolding(crate::specs::Grammar::leave_all_of))]
 pub fn leave_all_of<A: Allocator>(args: &[&str]) -> Result<Step<A>, FaultKind>
     ensures { Meets plain result (leave_all_of (map (λ word. word.now) args.now)) }
@@ -255,8 +257,8 @@ fn with_node<A: Allocator>(
     Ok(chosen.with(node))
 }
 
-/// Reads an extract: `NAME ..`. `WrongCount` unless there are 1 to 32 names, or else the fault of the first name that
-/// `with_node` refuses.
+/// Reads an extract: `NAME ..`. `WrongCount` if there are no names or more than 32; after that, the fault of the first
+/// name that `with_node` refuses.
 #[tactic(auto, unfolding(crate::specs::Grammar::extract_of, crate::specs::Grammar::with_nodes))]
 pub fn extract_of<A: Allocator>(nodes: &Names<A>, names: &[&str]) -> Result<Step<A>, FaultKind>
     ensures { Meets plain result (extract_of nodes.now (map (λ word. word.now) names.now)) }
@@ -284,8 +286,8 @@ fn message_with<A: Allocator>(
     Ok((sender, number))
 }
 
-/// Reads the sender and the number of a message: `NAME NUMBER`. `WrongCount` unless there are two words; else `BadName`
-/// if no node has the name, before `BadNumber`.
+/// Reads the sender and the number of a message: `NAME NUMBER`. `WrongCount` unless there are two words; then `BadName`
+/// if no node is called `NAME`; then `BadNumber`.
 #[tactic(auto, unfolding(crate::specs::Grammar::one_message))]
 fn one_message<A: Allocator>(nodes: &Names<A>, args: &[&str]) -> Result<(u16, u64), FaultKind>
     ensures { Meets (λ message. message) result (one_message nodes.now (map (λ word. word.now) args.now)) }

@@ -35,7 +35,7 @@ pub fn words_of<A: Allocator>(alloc: A, line: &str) -> Result<Vec<&str, A>, Oom>
         .collect(alloc)
 }
 
-/// How many bytes come before the first that may not stand in a word (that isn't 0x21 to 0x7E); all if there is none.
+/// How many bytes at the front are bytes that a word may have, from 0x21 to 0x7E.
 fn word_len(bytes: &[u8]) -> usize
     ensures { result ≡ prefix_len is_word_byte bytes.now }
 {
@@ -81,7 +81,8 @@ pub fn put_words<'l, A: Allocator>(
     Ok(())
 }
 
-fn has_digits(bytes: &[u8]) -> bool
+/// Whether each byte is a decimal digit.
+fn are_digits(bytes: &[u8]) -> bool
     ensures { result ≡ list_all is_ascii_digit bytes.now }
 {
     bytes.iter().all(|byte| byte.is_ascii_digit())
@@ -97,7 +98,7 @@ fn is_numeral(digits: &[u8]) -> bool
     if digits[0] == b'0' && digits.len() > 1 {
         return false;
     }
-    has_digits(digits)
+    are_digits(digits)
 }
 
 /// The number that `digits` spell. `None` if they aren't 1 to 20 decimal digits, if they have a leading zero (but for

@@ -2,8 +2,8 @@
 ghost use Rattle.std.specs.Prelude.{◌≡◌, option_map};
 ghost use Rattle.hint_core.specs.EventForms.{tracked_form, message_form, event_form};
 
-/// Says which keys besides `node` and `event` an event with the word `verb` under `event` has, if it is a join, an
-/// update, a leave or a leave all; `None` for another word.
+/// Says which keys, besides `node` and `event`, a join, an update, a leave or a leave all has; `None` if `verb` names
+/// none of these. `verb` is the word under the key `event`.
 #[tactic(auto, unfolding(crate::specs::EventForms::tracked_form))]
 fn tracked_form(verb: &str) -> Option<&'static str>
     ensures { option_map (λ form. form.now) result ≡ tracked_form verb.now }

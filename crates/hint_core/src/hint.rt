@@ -21,7 +21,7 @@ pub enum Hint<'l> {
         word: &'l str,
         after: &'static str,
     },
-    /// The byte at `place` of the line with the fault, counted from 1, with a text behind it.
+    /// The byte at `place`, counted from 1, of the line with the fault, and a text behind it.
     Byte {
         place: usize,
         byte: u8,

@@ -80,6 +80,7 @@ fn hint_at(bytes: &[u8], number: u64, kind: FaultKind) -> Option<Hint<'_>>
     hint_of_line(number, bytes, count, line, kind)
 }
 
+/// Whether the fault is that memory was refused.
 fn wants_memory(kind: FaultKind) -> bool
     ensures { result ≡ wants_memory kind }
 {

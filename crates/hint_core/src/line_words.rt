@@ -90,6 +90,7 @@ fn names(line: &[u8], keyword: &str, word: &str) -> bool
     }
 }
 
+/// Whether the line's first word is `keyword`.
 #[tactic(auto, unfolding(crate::specs::LineWords::begins))]
 fn begins(line: &[u8], keyword: &str) -> bool
     ensures { result ≡ begins keyword.now line.now }

@@ -111,8 +111,8 @@ fn no_node<'l>(bytes: &[u8], count: usize, words: &[&'l str]) -> &'l str
     ""
 }
 
-/// The place, counted from 0, of the first word that should name a node, in a line that begins with the word `first`:
-/// 1 if that is a reserved word, and else 2, behind an actor's verb.
+/// In a line whose first word is `first`, the place, counted from 0, of the first word that should name a node: 1 if
+/// `first` is reserved, and else 2, behind an actor's verb.
 fn name_place(first: &str) -> usize
     ensures { result ≡ name_place first.now }
 {

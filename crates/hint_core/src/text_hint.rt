@@ -7,7 +7,7 @@ use crate::first_bytes::is_marked;
 use crate::hint::{Hint, about};
 use crate::line_words::behind;
 
-/// Says of a byte that a text can't have what sort of byte it is, and what to do about it.
+/// Says what sort of byte this is, one that a text can't have, and what to do about it.
 #[tactic(auto, unfolding(crate::specs::Choices::byte_text))]
 fn byte_text(byte: u8) -> &'static str
     ensures { result.now ≡ byte_text byte }

@@ -17,7 +17,7 @@ pub(crate) fn is_reserved(word: &str) -> bool
     keyword_of(word).is_some()
 }
 
-/// The hint for the first line that isn't skipped, if it doesn't begin with `nodes`.
+/// The hint for the first line that has words and isn't a comment, if that line doesn't begin with `nodes`.
 #[tactic(auto, unfolding(crate::specs::Choices::no_nodes))]
 pub(crate) fn no_nodes<'l>(words: &[&'l str]) -> Option<Hint<'l>>
     ensures { option_map plain_hint result ≡ no_nodes (map (λ word. word.now) words.now) }

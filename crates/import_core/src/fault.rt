@@ -11,7 +11,7 @@ use thiserror::Error;
 /// What is wrong with a line, or with the whole input. `docs/FORMATS.md` has the order in which faults are looked for.
 #[derive(Clone, Copy, Debug, PartialEq, Eq, Error)]
 pub enum FaultKind {
-    /// The line or the script has more bytes than it may have.
+    /// The line, or the script that is made of the logs, has more bytes than it may have.
     #[error("TooLong")]
     TooLong,
     /// The line isn't JSON, or nests too deep.

@@ -29,11 +29,11 @@ pub struct Import<A: Allocator> {
     pub left_out: Vec<u64, A>,
 }
 
-/// The line numbers of the deliveries and answers that were left out, taken out of the import.
+/// Gives the import's `left_out`, and drops the rest of the import.
 pub fn left_out_of<A: Allocator>(import: Import<A>) -> Vec<u64, A>
     ensures { result.items ≡ import.left_out.items }
 {
-    // form: takes the import apart in a function of its own
+    // form: taken apart in a function of its own
     import.left_out
 }
 
@@ -65,7 +65,8 @@ fn number_at<A: Allocator>(notes: &[Noted<A>], place: usize) -> u64
     }
 }
 
-/// The fault of an order as a fault of the import, at the line of the event that the order's fault names.
+/// The fault of an order as a fault of the import: at the line of the note that it names by place, or at line 0 for
+/// `OutOfMemory`.
 fn fault_of<A: Allocator>(notes: &[Noted<A>], fault: OrderFault) -> ImportFault
     requires { IsFaultOf (logged_of (map note_of notes.now)) fault }
     ensures { IsOrderFault (map note_of notes.now) result }

@@ -9,7 +9,7 @@ use crate::notes::Noted;
 use dots_core::Oom;
 use std::alloc::Allocator;
 
-/// Marks in `sent` the message that an event sends, if it sends one.
+/// Sets the flag in `sent` of the message that an event sends; sets none if `sends` is `None`.
 fn mark<A: Allocator>(sent: &mut Vec<bool, A>, sends: Option<usize>)
     requires { IfSome sends (λ m. m < length sent.old.items) }
     ensures all { length sent.new.items ≡ length sent.old.items }
@@ -36,7 +36,7 @@ fn sent_by<A: Allocator + Copy>(
     Ok(sent)
 }
 
-/// Whether the event waits for no message, or for one that is marked in `sent`.
+/// Whether the event waits for no message, or for one whose flag in `sent` is set.
 fn can_stay<A: Allocator>(note: &Noted<A>, sent: &[bool]) -> bool
     ensures { result ≡ has_awaited (λ m. slice_index_or sent.now m false) (note_of note.now).logged.waits }
 {

@@ -1,5 +1,5 @@
-//! From the events of logs to a note of each, with the step that stands for the event, and to an order in which a bench
-//! can play them.
+//! Makes a note of each event of logs, with the step that stands for the event, and finds an order in which a bench can
+//! play the events.
 //!
 //! The crate stands on `log_core` for what a line says, on `event_order` for the order of events, on `spelling_core`
 //! for words, on `diff_core` for rows, and on `bench_core` for steps and sets of texts. It names the plain types of the

@@ -1,4 +1,4 @@
-//! `NoteFault`: why no `Noted`, from which an event is ordered and played, was made of an event.
+//! `NoteFault`: why an event has no note (`Noted`).
 ghost use Rattle.std.specs.Prelude.{◌≡◌};
 ghost use Rattle.import_core.specs.declared.note_fault.NoteFault.TheVariants.{OutOfMemory};
 

@@ -1,4 +1,4 @@
-//! Notes of all events of a log, from which the events are ordered and played.
+//! Makes the notes of the events of logs.
 ghost use Rattle.std.specs.Prelude.{◌≡◌, ◌^◌, ◌<◌, ◌≤◌, ◌++◌, ◌∷◌, [], Err, length, map, IfOk, IfErr, OnOk, option_map};
 ghost use Rattle.node_core.specs.Operations.{plain};
 ghost use Rattle.log_core.specs.Views.{line as shown_line};
@@ -30,7 +30,7 @@ pub struct Noted<A: Allocator> {
     pub rows: Vec<OnlineRow<A>, A>,
 }
 
-/// The number that the tables gave the message which a step takes; `None` if there is no step, or it takes no message.
+/// The number, in the tables, of the message that a step takes; `None` if there is no step, or it takes no message.
 fn awaited<A: Allocator>(step: &Option<Step<A>>) -> Option<usize>
     ensures { result ≡ awaited (option_map plain step.now) }
 {

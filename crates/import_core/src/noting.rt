@@ -71,7 +71,7 @@ fn leave_for<A: Allocator + Copy>(
     Ok(Step::Leave { pid, topic, key })
 }
 
-/// The number of the node that sent a message, and that of the message in the tables. A new node or message gets the
+/// The number of the node called `from`, and the number, in the tables, of its message. A new node or message gets the
 /// next number.
 fn taken_from<A: Allocator + Copy>(
     heap: Global,
@@ -90,8 +90,8 @@ fn taken_from<A: Allocator + Copy>(
     Ok((sender, message as u64))
 }
 
-/// The nodes with these names. A new node gets the next number. Values that aren't texts are passed over; an event has
-/// no such values.
+/// The nodes with these names. A new node gets the next number. Passes over values that aren't texts; an event has none
+/// of these.
 fn nodes_for<A: Allocator + Copy>(
     tables: &mut Tables<A>,
     names: &[Value],
@@ -284,8 +284,8 @@ pub(crate) fn step_for<A: Allocator + Copy>(
     }
 }
 
-/// The number in the tables of the message that an event of the node sends; `None` if it sends none. A new message gets
-/// the next number.
+/// The number, in the tables, of the message that the event sends; `None` if it sends none. A new message gets the next
+/// number. `node` is the event's node, which is the sender.
 pub(crate) fn sent_by<A: Allocator + Copy>(
     heap: Global,
     tables: &mut Tables<A>,

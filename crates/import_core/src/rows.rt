@@ -15,7 +15,7 @@ use log_core::{LogEvent, Row, row_at};
 use serde_json::Value;
 use std::alloc::{Allocator, Global};
 
-/// A listed row as one of the bench, with clock 0, since a real node lists no clocks. In the tables, a new node,
+/// The listed row as a row of the bench. Its clock is 0, since a real node lists no clocks. In the tables, a new node,
 /// a new process, and a new value whose word must be cut, get numbers.
 fn row_for<A: Allocator + Copy>(
     heap: Global,
@@ -40,6 +40,7 @@ fn row_for<A: Allocator + Copy>(
     })
 }
 
+/// Appends the row. A refused push becomes `Oom`, which `rows_for` passes on as a `NoteFault`.
 fn add_row<A: Allocator + Copy>(
     rows: &mut Vec<OnlineRow<A>, A>,
     row: OnlineRow<A>,
@@ -50,8 +51,8 @@ fn add_row<A: Allocator + Copy>(
     Ok(())
 }
 
-/// The listed rows as rows of the bench. Values that aren't rows are passed over; an event has no such values. The
-/// tables change as in `row_for`.
+/// The listed rows as rows of the bench. Passes over values that aren't rows; an event has none of these. The tables
+/// change as in `row_for`.
 fn rows_for<A: Allocator + Copy>(
     heap: Global,
     alloc: A,

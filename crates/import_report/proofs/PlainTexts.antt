@@ -5,7 +5,8 @@ use Rattle.std.specs.List.{flat_map, list_all}
 use Rattle.std.proofs.lemmas.Bool.Decides.{nat_tests}
 use Rattle.payload_core.specs.Words.{is_word_byte}
 use Rattle.grammar_core.specs.Words.{is_text, is_visible}
-use Rattle.import_report.specs.Ascii.{ascii_char, ascii_text, escaped_char, escaped_unit, hex_digit, string_char, string_text}
+use Rattle.std.specs.Char.{digit_char}
+use Rattle.import_report.specs.Ascii.{ascii_char, ascii_text, escaped_char, escaped_unit, string_char, string_text}
 
 abbrev is_plain : ℕ → Bool
 is_plain byte = nat_le 32 byte && nat_le byte 126
@@ -39,7 +40,7 @@ plain_visible word e = bytes_plain word (both (not (length word == 0)) (list_all
 
 -- what is escaped
 
-digit_plain : (value : ℕ) → value < 16 → is_plain (hex_digit value) ≡ true
+digit_plain : (value : ℕ) → value < 16 → is_plain (digit_char value) ≡ true
 digit_plain value low = grind (arith, nat_tests, low)
 
 plain_digits : (a b c d : ℕ) → is_plain a ≡ true → is_plain b ≡ true → is_plain c ≡ true → is_plain d ≡ true → is_text (92 ∷ 117 ∷ a ∷ b ∷ c ∷ d ∷ []) ≡ true
@@ -48,7 +49,7 @@ plain_digits a b c d p q r s = rw (p, q, r, s) refl
 plain_unit : (unit : ℕ) → is_text (escaped_unit unit) ≡ true
 unfolding escaped_unit
 plain_unit unit =
-    plain_digits (hex_digit (unit / 4096 % 16)) (hex_digit (unit / 256 % 16)) (hex_digit (unit / 16 % 16)) (hex_digit (unit % 16))
+    plain_digits (digit_char (unit / 4096 % 16)) (digit_char (unit / 256 % 16)) (digit_char (unit / 16 % 16)) (digit_char (unit % 16))
     (digit_plain (unit / 4096 % 16) (omega arith)) (digit_plain (unit / 256 % 16) (omega arith)) (digit_plain (unit / 16 % 16) (omega arith))
     (digit_plain (unit % 16) (omega arith))
 

@@ -1,14 +1,12 @@
 -- JSON in ASCII, where each character that is neither a visible byte nor a space is escaped.
 use Rattle.std.specs.Prelude.{ℕ, ◌+◌, ◌-◌, ◌/◌, ◌%◌, nat_le, nat_lt, ◌==◌, ◌&&◌, ◌||◌, if◌then◌else◌, List, [], ◌∷◌, ◌++◌, chars}
 use Rattle.std.specs.List.{flat_map}
-
-abbrev pub hex_digit : ℕ → ℕ
-hex_digit value = if nat_lt value 10 then 48 + value else 87 + value
+use Rattle.std.specs.Char.{digit_char}
 
 -- a unit of UTF-16, as in `\u00e9`
 unfoldable pub escaped_unit : ℕ → List ℕ
 escaped_unit unit =
-    92 ∷ 117 ∷ hex_digit (unit / 4096 % 16) ∷ hex_digit (unit / 256 % 16) ∷ hex_digit (unit / 16 % 16) ∷ hex_digit (unit % 16) ∷ []
+    92 ∷ 117 ∷ digit_char (unit / 4096 % 16) ∷ digit_char (unit / 256 % 16) ∷ digit_char (unit / 16 % 16) ∷ digit_char (unit % 16) ∷ []
 
 -- the units of a character: one, or two if it has more than 16 bits
 unfoldable pub escaped_char : ℕ → List ℕ

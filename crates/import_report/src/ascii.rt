@@ -1,21 +1,10 @@
 //! JSON in ASCII: each character that is neither a visible byte nor a space is escaped.
 ghost use Rattle.std.specs.Prelude.{◌≡◌, ◌++◌, ◌∷◌, [], ◌<◌, IfOk, OnOk, string_bytes};
-ghost use Rattle.import_report.specs.Ascii.{ascii_char, ascii_text, escaped_char, escaped_unit, hex_digit, string_char, string_text};
+ghost use Rattle.std.specs.Char.{digit_char};
+ghost use Rattle.import_report.specs.Ascii.{ascii_char, ascii_text, escaped_char, escaped_unit, string_char, string_text};
 
 use payload_core::Oom;
 use std::alloc::Allocator;
-
-/// The hexadecimal digit for `value`, which must be below 16, in lower case. (`W` stands 10 before `a`.)
-fn hex_digit(value: u32) -> char
-    requires { value < 16 }
-    ensures { result ≡ hex_digit value }
-{
-    if value < 10 {
-        (b'0' + value as u8) as char
-    } else {
-        (b'W' + value as u8) as char
-    }
-}
 
 /// Appends `c`, which must be ASCII.
 fn put_ascii<A: Allocator>(text: &mut String<A>, c: char) -> Result<(), Oom>
@@ -25,12 +14,12 @@ fn put_ascii<A: Allocator>(text: &mut String<A>, c: char) -> Result<(), Oom>
     Ok(text.push(c)?)
 }
 
-/// Appends `value`, which must be below 16, as a hexadecimal digit.
+/// Appends `value`, which must be below 16, as a hexadecimal digit in lower case.
 fn put_digit<A: Allocator>(text: &mut String<A>, value: u32) -> Result<(), Oom>
     requires { value < 16 }
-    ensures { OnOk result (string_bytes text.new ≡ string_bytes text.old ++ hex_digit value ∷ []) }
+    ensures { OnOk result (string_bytes text.new ≡ string_bytes text.old ++ digit_char value ∷ []) }
 {
-    put_ascii(text, hex_digit(value))
+    put_ascii(text, char::from_digit(value, 16).unwrap())
 }
 
 /// Appends a unit of UTF-16, as in `\u00e9`.
@@ -45,7 +34,7 @@ fn put_unit<A: Allocator>(text: &mut String<A>, unit: u32) -> Result<(), Oom>
     put_digit(text, unit % 16)
 }
 
-/// Appends a character as one or two units of UTF-16.
+/// Appends a character as an escape such as `\u00e9` for each of its one or two units in UTF-16.
 #[tactic(auto, unfolding(crate::specs::Ascii::escaped_char))]
 fn put_escaped<A: Allocator>(text: &mut String<A>, c: char) -> Result<(), Oom>
     ensures { OnOk result (string_bytes text.new ≡ string_bytes text.old ++ escaped_char c) }
@@ -58,7 +47,7 @@ fn put_escaped<A: Allocator>(text: &mut String<A>, c: char) -> Result<(), Oom>
     put_unit(text, 0xDC00 + (c - 0x10000) % 0x400)
 }
 
-/// Appends a character: a visible byte or a space as it is, any other one escaped.
+/// Appends a character: a visible byte or a space unescaped, any other character as an escape.
 #[tactic(auto, unfolding(crate::specs::Ascii::ascii_char))]
 fn put_char<A: Allocator>(text: &mut String<A>, c: char) -> Result<(), Oom>
     ensures { OnOk result (string_bytes text.new ≡ string_bytes text.old ++ ascii_char c) }
@@ -69,7 +58,8 @@ fn put_char<A: Allocator>(text: &mut String<A>, c: char) -> Result<(), Oom>
     put_escaped(text, c)
 }
 
-/// Appends a character of a string, with `\` before a quotation mark or another `\`.
+/// Appends a character of a string: a quotation mark or a backslash with a `\` before it, any other character as
+/// `put_char` does.
 #[tactic(auto, unfolding(crate::specs::Ascii::string_char))]
 fn put_string_char<A: Allocator>(text: &mut String<A>, c: char) -> Result<(), Oom>
     ensures { OnOk result (string_bytes text.new ≡ string_bytes text.old ++ string_char c) }

@@ -131,9 +131,9 @@ fn check_step<'a, B: Allocator>(
     put_refusal(text, bench.names(), note, played?)
 }
 
-/// Checks an event. Plays its step, and appends the step's refusal, if it is refused; or appends that the step can't be
-/// asked. If the event lists rows, compares its list with the bench's, appends where the two part, and notes in
-/// `agreements` whether they agree.
+/// Checks an event. If it has a step, plays the step, and appends the refusal, if there is one; or appends that the
+/// step can't be asked. If the event lists rows, compares its list with the bench's, appends where the two part, and
+/// adds to `agreements` whether they agree.
 #[tactic(auto, unfolding(crate::specs::Checks::IsEventChecked, crate::specs::Events::after_event))]
 fn check_event<'a, B: Allocator>(
     bench: &mut Bench<'a, B>,
@@ -192,7 +192,7 @@ fn put_agree<A: Allocator>(text: &mut String<A>, agreements: &[bool]) -> Result<
 }
 
 /// Checks the events in this order, appends where the bench and the real nodes part and how many lists agree, and says
-/// whether bench and nodes part anywhere. The text must be empty.
+/// whether bench and nodes part anywhere. The text must be empty. `numbers` is as in `play`.
 pub(crate) fn checked<'a, B: Allocator>(
     bench: &mut Bench<'a, B>,
     text: &mut String<&'a B>,

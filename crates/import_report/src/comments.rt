@@ -1,4 +1,4 @@
-//! Comments that tell what the names of nodes and the marks of cut words stand for.
+//! Comments that tell the nodes' own names, and the value behind each `~NUMBER` at the end of a cut word.
 ghost use Rattle.std.specs.Prelude.{◌≡◌, ◌++◌, ◌<◌, ◌≤◌, ◌^◌, true, IfOk, OnOk, length, string_bytes};
 ghost use Rattle.grammar_core.specs.Words.{is_text};
 ghost use Rattle.import_core.specs.Tables.{all_of};
@@ -29,7 +29,8 @@ fn shortened<A: Allocator>(alloc: A, text: &str) -> Result<String<A>, Oom>
     Ok(short)
 }
 
-/// Appends a comment such as `# n0 is "app@10.0.0.1"`, unless the node has its own name in the script.
+/// Appends a comment such as `# n0 is "app@10.0.0.1"`, with the name of a node in the script (`name`) and its own name
+/// (`node`); nothing if the two are the same.
 fn put_node<A: Allocator + Copy>(
     alloc: A,
     text: &mut String<A>,
@@ -65,8 +66,8 @@ fn put_nodes<A: Allocator + Copy, N: Allocator>(
     Ok(())
 }
 
-/// Appends the comment `# ~NUMBER is TEXT`. TEXT is `value`, the JSON text of the value whose word was cut under this
-/// number, in ASCII and shortened.
+/// Appends the comment `# ~NUMBER is TEXT`. TEXT is `value` in ASCII and shortened; `value` is the JSON text of the
+/// value whose word was cut under this number.
 fn put_word<A: Allocator + Copy>(
     alloc: A,
     text: &mut String<A>,

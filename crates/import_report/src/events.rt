@@ -123,7 +123,7 @@ fn put_event<'a, B: Allocator>(
     put_played(text, bench, numbers, node, note.logged.sends, step)
 }
 
-/// Appends `# line L`, and a line feed, if `told`.
+/// Appends `# line L`, where L is `number`, and a line feed; nothing if `told` is false.
 fn put_mark<A: Allocator>(text: &mut String<A>, told: bool, number: u64) -> Result<(), Oom>
     ensures { OnOk result (string_bytes text.new ≡ string_bytes text.old ++ mark_text told number) }
 {
@@ -134,8 +134,8 @@ fn put_mark<A: Allocator>(text: &mut String<A>, told: bool, number: u64) -> Resu
     Ok(text.push_str("\n")?)
 }
 
-/// Appends `# line L` if `told`, with the event's line number in the logs, and then plays the event and appends its
-/// line (see `put_event`).
+/// If `told` is true, appends `# line L`, where L is the event's line number in the logs. Then plays the event and
+/// appends its line (see `put_event`).
 #[tactic(auto, unfolding(crate::specs::Events::event_text))]
 pub(crate) fn put_lines<'a, B: Allocator>(
     text: &mut String<&'a B>,

@@ -51,9 +51,9 @@ fn script_of_import<'a, B: Allocator>(
 }
 
 /// The script of these logs, with the bench on which its lines were played as they were made; and the line numbers of
-/// the deliveries and answers that were left out, which only a `lenient` import has. If `told`, a comment before the
-/// script's line of an event has the event's line number in the logs. `TooLong` if the script has more bytes than a
-/// play reads.
+/// the deliveries and answers that were left out, which only a `lenient` import has. If `told` is true, a comment above
+/// each event's line in the script has the event's line number in the logs. `TooLong` if the script has more bytes than
+/// a play reads.
 pub fn import_script<'a, B: Allocator>(
     heap: Global,
     alloc: &'a B,
@@ -72,7 +72,9 @@ pub fn import_script<'a, B: Allocator>(
     let scripted = scripted?;
     if scripted.text.len() > LONGEST_SCRIPT {
         // form: drop before exit
-        drop(scripted);
+        let Scripted { text, bench } = scripted;
+        drop(text);
+        bench.discard();
         return Err(ImportFault {
             line: 0,
             kind: FaultKind::TooLong,
@@ -104,7 +106,7 @@ pub fn import_bench<'a, B: Allocator>(
 fn bench_of<'a, B: Allocator>(scripted: Scripted<'a, B>) -> Bench<'a, B>
     ensures { result ≡ scripted.entry.bench }
 {
-    // form: takes the script apart in a function of its own
+    // form: taken apart in a function of its own
     scripted.bench
 }
 
@@ -143,7 +145,7 @@ fn check_of_import<'a, B: Allocator>(
         alloc,
     );
     // form: drop before exit
-    drop(bench);
+    bench.discard();
     let differs = differs?;
     Ok(Checked { text, differs })
 }

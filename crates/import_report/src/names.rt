@@ -23,6 +23,7 @@ pub(crate) fn text_at<A: Allocator>(texts: &TextSet<A>, number: usize) -> &str
     }
 }
 
+/// Adds the text to `words`, as `unreserved` gives it.
 fn add_word<'t, A: Allocator>(words: &mut Vec<&'t str, A>, text: &'t str) -> Result<(), Oom>
     ensures { OnOk result (map (λ word. word.now) words.new.items ≡ map (λ word. word.now) words.old.items ++ unreserved text.now ∷ []) }
 {
@@ -44,7 +45,7 @@ fn texts_as_words<'t, A: Allocator + Copy>(
     Ok(words)
 }
 
-/// The first `count` words; there must be as many.
+/// The first `count` words; there must be at least `count`.
 fn first_words<'s, 't>(words: &'s [&'t str], count: usize) -> &'s [&'t str]
     requires { count ≤ length words.now }
     ensures { result.now ≡ take count words.now }
@@ -71,8 +72,8 @@ fn numbered_names<A: Allocator + Copy>(alloc: A, count: usize) -> Result<Names<A
     }
 }
 
-/// The names `n0`, `n1` and so on, `count` of them, for nodes whose own names have this fault; `OutOfMemory` stays a
-/// fault.
+/// The names `n0`, `n1` and so on, `count` of them, for nodes whose own names were refused with `fault`; `Oom` if that
+/// fault is `OutOfMemory`.
 fn or_numbered<A: Allocator + Copy>(
     alloc: A,
     fault: NamesFault,
@@ -90,8 +91,8 @@ fn or_numbered<A: Allocator + Copy>(
     numbered_names(alloc, count)
 }
 
-/// The names of the nodes in the script: their own, if a `nodes` line can have all of them, or else `n0`, `n1` and so
-/// on. There must be 1 to 32 nodes.
+/// The names of the nodes in the script: their own, if a `nodes` line can have all of them, and otherwise `n0`, `n1`
+/// and so on. There must be 1 to 32 nodes.
 pub fn shown_names<A: Allocator + Copy>(alloc: A, nodes: &TextSet<A>) -> Result<Names<A>, Oom>
     requires some { 0 < length nodes.now }
     requires few { length nodes.now ≤ 32 }

@@ -37,8 +37,8 @@ fn put_nodes<A: Allocator, N: Allocator>(text: &mut String<A>, names: &Names<N>)
     Ok(text.push_str("\n")?)
 }
 
-/// Plays the events in this order, and appends their lines. `order` has their places in `notes`; `told` and `numbers` are
-/// as in `put_lines` and `play`.
+/// Plays the events in this order, and appends their lines. `order` has their places in `notes`; `told` is as in
+/// `put_lines`, and `numbers` as in `play`.
 #[tactic(auto, unfolding(crate::specs::Events::events_text))]
 fn put_events<'a, B: Allocator>(
     text: &mut String<&'a B>,
@@ -115,7 +115,7 @@ pub(crate) fn script_of<'a, B: Allocator>(
     let mut bench = Bench::new(alloc, names, limits)?;
     if let Err(oom) = put_events(&mut text, &mut bench, &mut numbers, told, notes, order) {
         // form: drop before exit
-        drop(bench);
+        bench.discard();
         return Err(oom);
     }
     Ok(Scripted { text, bench })

@@ -30,7 +30,8 @@ use Rattle.report_core.specs.Shown.{node_of, node_of_step, rows_at, rows_of}
 use Rattle.transcript_core.specs.Scripts.{call_line, cast_of}
 use Rattle.page_data.specs.Asked.{node_if}
 use Rattle.page_data.specs.Carried.{clocks_standing, hops_at, message_in, missed_at, names_in}
-use Rattle.page_data.specs.Json.{comma_at, escaped_byte, hex_digit, more_numbers, number_key, number_key_if, numbers_key, numbers_text, string_char, string_chars, string_text, text_key}
+use Rattle.std.specs.Char.{digit_char}
+use Rattle.page_data.specs.Json.{comma_at, escaped_byte, more_numbers, number_key, number_key_if, numbers_key, numbers_text, string_char, string_chars, string_text, text_key}
 use Rattle.page_data.specs.Laws.{IsPlain, PlainLaw, PlainWithLaw, is_plain}
 use Rattle.page_data.specs.PageData.{act_gives, act_reads, arrival_keys, asked_text, call_text, calls_text, carried_keys, changed_text, consoles_text, data_with, delivery_keys, gives_keys}
 use Rattle.page_data.specs.PageData.{held_keys, is_own, made_at, made_head, made_keys, made_text, nodes_text, message_keys, outbox_keys, outcome_keys, own_keys, page_data}
@@ -122,7 +123,7 @@ other c is = go (nat_lt c 128) (nat_lt c 2048) (nat_lt c 65536)
         (pair (128 + (c / 4096) % 64) ((128 + (c / 64) % 64) ∷ (128 + c % 64) ∷ []) (next (c / 4096))
         (pair (128 + (c / 64) % 64) ((128 + c % 64) ∷ []) (next (c / 64)) (pair (128 + c % 64) [] (next c) refl)))
 
-hex_plain : (v : ℕ) → is_plain (hex_digit v) ≡ true
+hex_plain : (v : ℕ) → is_plain (digit_char v) ≡ true
 hex_plain v = go (nat_lt v 10) refl
   where
     go : (b : Bool) → nat_lt v 10 ≡ b → is_plain (if b then 48 + v else 87 + v) ≡ true
@@ -132,8 +133,8 @@ hex_plain v = go (nat_lt v 10) refl
 escaped_plain : (b : ℕ) → IsPlain (escaped_byte b)
 unfolding escaped_byte
 escaped_plain b =
-    two (codes "\\u00") (hex_digit (b / 16 % 16) ∷ hex_digit (b % 16) ∷ []) refl
-    (ap (λ x. x && (is_plain (hex_digit (b % 16)) && true)) (hex_plain (b / 16 % 16)) ∙ ap (λ x. x && true) (hex_plain (b % 16)))
+    two (codes "\\u00") (digit_char (b / 16 % 16) ∷ digit_char (b % 16) ∷ []) refl
+    (ap (λ x. x && (is_plain (digit_char (b % 16)) && true)) (hex_plain (b / 16 % 16)) ∙ ap (λ x. x && true) (hex_plain (b % 16)))
 
 char_plain : (c : ℕ) → IsPlain (string_char c)
 unfolding string_char

@@ -1,13 +1,11 @@
 -- JSON text in which no `<` stands.
 use Rattle.std.specs.Prelude.{ℕ, ◌+◌, ◌/◌, ◌%◌, nat_lt, ◌==◌, ◌||◌, if◌then◌else◌, List, [], ◌∷◌, ◌++◌, length, chars, codes, decimal, encode_utf8, Option, Some, None}
 use Rattle.std.specs.List.{flat_map}
-
-abbrev pub hex_digit : ℕ → ℕ
-hex_digit value = if nat_lt value 10 then 48 + value else 87 + value
+use Rattle.std.specs.Char.{digit_char}
 
 -- a byte by its number, as in `\u003c`
 unfoldable pub escaped_byte : ℕ → List ℕ
-escaped_byte b = codes "\\u00" ++ hex_digit (b / 16 % 16) ∷ hex_digit (b % 16) ∷ []
+escaped_byte b = codes "\\u00" ++ digit_char (b / 16 % 16) ∷ digit_char (b % 16) ∷ []
 
 -- a character of a string: `"` and a backslash get a backslash before them; `<`, and what is neither a visible byte nor a space
 -- below it, become numbers

@@ -94,7 +94,7 @@ fn run_text<'a, B: Allocator>(
     let mut again = Bench::new(alloc, names, bench.limits())?;
     let put = put_events(&mut text, &mut again, consoles, bench.history(), alloc);
     // form: drop before exit
-    drop(again);
+    again.discard();
     put?;
     Ok(text)
 }

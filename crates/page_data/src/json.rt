@@ -1,28 +1,17 @@
 //! Writes JSON in which no `<` stands.
 ghost use Rattle.std.specs.Prelude.{◌≡◌, ◌++◌, ◌∷◌, ◌<◌, [], OnOk, string_bytes};
-ghost use Rattle.page_data.specs.Json.{comma_at, escaped_byte, hex_digit, more_numbers, number_key, number_key_if, numbers_key, numbers_text, string_char, string_chars, string_text, text_key};
+ghost use Rattle.std.specs.Char.{digit_char};
+ghost use Rattle.page_data.specs.Json.{comma_at, escaped_byte, more_numbers, number_key, number_key_if, numbers_key, numbers_text, string_char, string_chars, string_text, text_key};
 
 use payload_core::Oom;
 use std::alloc::Allocator;
 
-fn hex_digit(value: u32) -> char
-    requires { value < 16 }
-    ensures { result ≡ hex_digit value }
-{
-    if value < 10 {
-        (b'0' + value as u8) as char
-    } else {
-        // `W` is ten places before `a`
-        (b'W' + value as u8) as char
-    }
-}
-
-/// Appends `value` as a hexadecimal digit.
+/// Appends `value`, which must be below 16, as a hexadecimal digit in lower case.
 fn put_digit<A: Allocator>(text: &mut String<A>, value: u32) -> Result<(), Oom>
     requires { value < 16 }
-    ensures { OnOk result (string_bytes text.new ≡ string_bytes text.old ++ hex_digit value ∷ []) }
+    ensures { OnOk result (string_bytes text.new ≡ string_bytes text.old ++ digit_char value ∷ []) }
 {
-    Ok(text.push(hex_digit(value))?)
+    Ok(text.push(char::from_digit(value, 16).unwrap())?)
 }
 
 /// Appends the escape of a byte by its number, such as `\u003c`.

@@ -38,7 +38,7 @@ pub fn past_law()
 {}
 
 /// Applied to how a dot stood at a node before a delivery, the hops of the delivery give how the dot stands at the node
-/// after the delivery. The dot's name must be one of those that the hops tell of.
+/// after the delivery. The dot's name must be below the `count` that `hops_at` was given.
 pub fn hops_law()
     ensures { HopsLaw }
 {}

@@ -2,7 +2,7 @@
 //!
 //! For each recorded call the data tells what was asked and answered, and which steps the call's step follows from
 //! directly. It also tells which rows left and joined the online list of the call's node, what changed in what that
-//! node has seen, and what the message carries that the call's step sent, if that step sent one.
+//! node has seen, and, if the call's step sent a message, what that message carries.
 //!
 //! The crate stands on `report_core` (what a call changed of online lists), `transcript_core` (a call as a line of a
 //! script) and `bench_core` (the machine), and names the plain types of the crates below.

@@ -1,5 +1,5 @@
-//! `Seen`: what a node has seen of a name, as numbers. How that changed is told as `NAME,STATUS,CLOCK,MORE`: the number
-//! of the name, and the fields of the `Seen` after the change.
+//! `Seen`: what a node has seen of a name, as numbers. If that changed, the page gets `NAME,STATUS,CLOCK,MORE`: the
+//! number of the name, and the fields of the `Seen` after the change.
 ghost use Rattle.std.specs.Prelude.{◌≡◌, ◌++◌, ◌<◌, ◌≤◌, IfOk, OnOk, option_map};
 ghost use Rattle.page_data.specs.Seen.{all_seen, change_of, changes_in, changes_of, is_same, seen_at, seen_in, seen_of, status_number};
 

@@ -16,7 +16,7 @@ fn stands_so<R: Allocator>(message: &Payload<R>, name: u16, wanted: u64, clock: 
     standing_told(message, Dot { name, clock }) == wanted
 }
 
-/// Appends `clock`, if `is_wanted`.
+/// Appends `clock`; nothing if `is_wanted` is false.
 fn put_clock_if<A: Allocator>(
     numbers: &mut Vec<u64, A>,
     clock: u64,

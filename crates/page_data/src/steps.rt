@@ -72,7 +72,7 @@ fn put_arrival<'a, B: Allocator>(
 
 /// Appends what a step reads before it is taken: `prev`, the number of its node's last remaining step, if there is one;
 /// and `from`, if the step delivers a message, the number of the step that sent this message. For a delivery, what the
-/// node misses and what the delivery changes come next. `bench` is the bench before the step.
+/// node misses and what the delivery changes come next. `bench` is the bench before the step; `actor` must be a node.
 #[tactic(auto, unfolding(crate::specs::PageData::reads_keys))]
 pub fn put_reads<'a, B: Allocator>(
     text: &mut String<&'a B>,
@@ -108,8 +108,8 @@ fn put_broadcast<'a, B: Allocator>(
     put_numbers_key(text, "gone", &gone)
 }
 
-/// Appends what `message`, which `step` sent, carries: for a broadcast the clocks of the dots of `name` in it, and else
-/// the names below `count` of which the message has dots.
+/// Appends what a message carries that `step` sent: for a broadcast the clocks of the dots of `name` in the message,
+/// and else the names below `count` of which the message has dots.
 fn put_carried<'a, B: Allocator>(
     text: &mut String<&'a B>,
     step: &Step<&'a B>,
@@ -246,7 +246,8 @@ fn put_made<'a, B: Allocator>(
 }
 
 /// Appends what a step gave, after it was taken: what it sent and made, and which of the node's own presences came or
-/// went by it. `bench` is the bench after the step; `diff` says how the step changed the node's online list.
+/// went by it. `bench` is the bench after the step; `diff` says how the step changed the online list of its node,
+/// `actor`.
 #[tactic(auto, unfolding(crate::specs::PageData::gives_keys))]
 pub fn put_gives<'a, B: Allocator>(
     text: &mut String<&'a B>,

@@ -15,19 +15,19 @@ use Rattle.report_core.proofs.StepDiffs.{acted_is, newest, refused_rows, taken_r
 
 -- no row, and one row
 
-pub no_row : (mark : List ℕ) (names : Texts) (rows : List Row) (old : List ℕ) → rows ≡ [] → old ≡ old ++ row_lines mark names rows
+pub no_row : (sign : List ℕ) (names : Texts) (rows : List Row) (old : List ℕ) → rows ≡ [] → old ≡ old ++ row_lines sign names rows
 unfolding row_lines
-no_row mark names rows old none = sym (append-nil old) ∙ ap (λ rs. old ++ row_lines mark names rs) (sym none)
+no_row sign names rows old none = sym (append-nil old) ∙ ap (λ rs. old ++ row_lines sign names rs) (sym none)
 
-pub one_row : (mark : List ℕ) (names : Texts) (rows : List Row) (row : Row) (old new : List ℕ) → rows ≡ row ∷ [] →
-    new ≡ old ++ row_line mark names row → new ≡ old ++ row_lines mark names rows
+pub one_row : (sign : List ℕ) (names : Texts) (rows : List Row) (row : Row) (old new : List ℕ) → rows ≡ row ∷ [] →
+    new ≡ old ++ row_line sign names row → new ≡ old ++ row_lines sign names rows
 unfolding row_lines
-one_row mark names rows row old new one is =
-    is ∙ ap (λ t. old ++ t) (sym (append-nil (row_line mark names row))) ∙ ap (λ rs. old ++ row_lines mark names rs) (sym one)
+one_row sign names rows row old new one is =
+    is ∙ ap (λ t. old ++ t) (sym (append-nil (row_line sign names row))) ∙ ap (λ rs. old ++ row_lines sign names rs) (sym one)
 
-pub rows_told : (mark : List ℕ) (names : Texts) (rows told : List Row) (old new : List ℕ) → rows ≡ told →
-    new ≡ old ++ row_lines mark names rows → new ≡ old ++ row_lines mark names told
-rows_told mark names rows told old new same is = is ∙ ap (λ rs. old ++ row_lines mark names rs) same
+pub rows_told : (sign : List ℕ) (names : Texts) (rows told : List Row) (old new : List ℕ) → rows ≡ told →
+    new ≡ old ++ row_lines sign names rows → new ≡ old ++ row_lines sign names told
+rows_told sign names rows told old new same is = is ∙ ap (λ rs. old ++ row_lines sign names rs) same
 
 no_lines : (names : Texts) (old : List ℕ) → old ≡ old ++ change_lines names [] []
 unfolding change_lines row_lines

@@ -39,7 +39,7 @@ pub fn answer<'a, B: Allocator>(
     Ok(reply)
 }
 
-/// The change the other way round: the rows that left join, and those that joined leave.
+/// The change the other way round: what left joins, and what joined leaves.
 fn turned<A: Allocator>(change: Diff<A>) -> Diff<A>
     ensures left { result.left.items ≡ change.joined.items }
     ensures joined { result.joined.items ≡ change.left.items }

@@ -8,11 +8,11 @@
 //! The modules: `rows`, `step_text` and `dots_text` print what they are given, rows by way of `line`. `step_diffs`
 //! tells or prints what a step changed of its node's online list, and `moved` tells what several undos, made in turn,
 //! changed; `shown` tells and prints what a bench shows. `acting` makes acts on a bench, and tells or prints what the
-//! bench answered and what that changed; `unwinding` prints futures and unwinds. `laws` says what the numbers of the
+//! bench answered and what the act changed; `unwinding` prints futures and unwinds. `laws` says what the numbers of the
 //! `dots` lines are.
 //!
-//! Inside, the allocator is the last parameter. Where it comes before a bench, the analysis of each call that looks at
-//! the bench takes seconds: the lifetime in the bench's type then has another number than in the callee.
+//! Inside the crate the allocator is the last parameter: its place decides how the lifetimes are numbered, and so how
+//! long the check of a call takes (see `docs/CONTRIBUTING.md`).
 #![tactic(auto)]
 
 mod acting;

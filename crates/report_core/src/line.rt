@@ -94,7 +94,7 @@ fn put_whole<A: Allocator>(text: &mut String<A>, parts: &Parts) -> Result<(), Oo
     let node = parts.node;
     let pid = parts.pid;
     let metadata = parts.metadata;
-    // form: split in two for the proof
+    // form: in two pieces, which the proof takes one after the other
     write!(text, "{topic} {key} ")?;
     Ok(writeln!(text, "{node}/{pid} {metadata}")?)
 }

@@ -22,7 +22,7 @@ use std::alloc::Allocator;
 use std::marker::Model;
 
 /// The rows that left the online list of a node in several undos, and those that joined it, each row as often as it
-/// left or joined. A contract sees both.
+/// left or joined. Contracts see both lists.
 #[derive(Drop)]
 pub struct Moved<'a, B: Allocator> {
     left: Vec<OnlineRow<&'a B>, &'a B>,
@@ -148,7 +148,7 @@ fn undo_one<'a, B: Allocator>(
 }
 
 /// Undoes the steps with these numbers in turn, and gives for each node the rows that left and joined its online list
-/// in these undos. The bench must be able to undo each when its turn comes.
+/// in these undos. The bench must be able to undo each step once those before it are undone.
 pub fn undo_each<'a, B: Allocator>(
     bench: &mut Bench<'a, B>,
     actor: u16,

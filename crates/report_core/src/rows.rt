@@ -1,5 +1,6 @@
 //! Appends rows, how two lists differ, replies and numbers of steps to a text. Where a function takes a `line` beside
-//! the text, the line holds the text's end, not yet appended (see `Line`).
+//! the text, the line holds the text's end, not yet appended (see `Line`). A `sign` is what stands before a row, as
+//! `- `.
 ghost use Rattle.std.specs.Prelude.{◌≡◌, ◌++◌, OnOk, string_bytes};
 ghost use Rattle.report_core.specs.Rows.{name_at, row_text, row_line, row_lines, change_lines, is_no_change, changed_text, online_text};
 ghost use Rattle.report_core.specs.Rows.{reply_line, spaced_numbers, future_line, undone_lines};
@@ -20,18 +21,18 @@ pub fn name_at<A: Allocator>(names: &Names<A>, number: u16) -> &str
     }
 }
 
-/// Appends `mark`, the row and a line feed to the text, whose end is still in `line`.
+/// Appends `sign`, the row and a line feed to the text, whose end is still gathered in `line`.
 #[tactic(auto, unfolding(crate::specs::Rows::row_text))]
 fn put_row<A: Allocator, N: Allocator, R: Allocator>(
     text: &mut String<A>,
     line: &mut Line,
-    mark: &str,
+    sign: &str,
     names: &Names<N>,
     row: &OnlineRow<R>,
 ) -> Result<(), Oom>
-    ensures { OnOk result (string_bytes text.new ++ line.new.bytes ≡ (string_bytes text.old ++ line.old.bytes) ++ row_line mark.now names.now row.now) }
+    ensures { OnOk result (string_bytes text.new ++ line.new.bytes ≡ (string_bytes text.old ++ line.old.bytes) ++ row_line sign.now names.now row.now) }
 {
-    put_part(text, line, mark)?;
+    put_part(text, line, sign)?;
     let parts = Parts {
         topic: row.topic.as_str(),
         key: row.key.as_str(),
@@ -42,18 +43,18 @@ fn put_row<A: Allocator, N: Allocator, R: Allocator>(
     put_parts(text, line, &parts)
 }
 
-/// Appends `mark`, the row of an entry and a line feed to the text, whose end is still in `line`.
+/// Appends `sign`, the row of an entry and a line feed to the text, whose end is still gathered in `line`.
 #[tactic(auto, unfolding(crate::specs::Rows::row_text))]
 pub(crate) fn put_entry<'x, A: Allocator, N: Allocator, R: Allocator>(
     text: &mut String<A>,
     line: &mut Line,
-    mark: &str,
+    sign: &str,
     names: &Names<N>,
     row: &EntryRow<'x, R>,
 ) -> Result<(), Oom>
-    ensures { OnOk result (string_bytes text.new ++ line.new.bytes ≡ (string_bytes text.old ++ line.old.bytes) ++ row_line mark.now names.now row.now) }
+    ensures { OnOk result (string_bytes text.new ++ line.new.bytes ≡ (string_bytes text.old ++ line.old.bytes) ++ row_line sign.now names.now row.now) }
 {
-    put_part(text, line, mark)?;
+    put_part(text, line, sign)?;
     let entry = row.entry();
     let parts = Parts {
         topic: entry.topic.as_str(),
@@ -65,42 +66,43 @@ pub(crate) fn put_entry<'x, A: Allocator, N: Allocator, R: Allocator>(
     put_parts(text, line, &parts)
 }
 
-/// Appends `mark`, the row and a line feed, for each of `rows`, to the text, whose end is still in `line`.
+/// Appends `sign`, the row and a line feed, for each of `rows`, to the text, whose end is still gathered in `line`.
 #[tactic(auto, unfolding(crate::specs::Rows::row_lines))]
 fn put_each<A: Allocator, N: Allocator, R: Allocator>(
     text: &mut String<A>,
     line: &mut Line,
-    mark: &str,
+    sign: &str,
     names: &Names<N>,
     rows: &[OnlineRow<R>],
 ) -> Result<(), Oom>
-    ensures { OnOk result (string_bytes text.new ++ line.new.bytes ≡ (string_bytes text.old ++ line.old.bytes) ++ row_lines mark.now names.now rows.now) }
+    ensures { OnOk result (string_bytes text.new ++ line.new.bytes ≡ (string_bytes text.old ++ line.old.bytes) ++ row_lines sign.now names.now rows.now) }
 {
     for row in rows {
-        put_row(text, line, mark, names, row)?;
+        put_row(text, line, sign, names, row)?;
     }
     Ok(())
 }
 
-/// Appends `mark`, the row of the entry and a line feed, for each of `rows`, to the text, whose end is still in `line`.
+/// Appends `sign`, the row of the entry and a line feed, for each of `rows`, to the text, whose end is still gathered
+/// in `line`.
 #[tactic(auto, unfolding(crate::specs::Rows::row_lines))]
 pub(crate) fn put_entries<'x, A: Allocator, N: Allocator, R: Allocator>(
     text: &mut String<A>,
     line: &mut Line,
-    mark: &str,
+    sign: &str,
     names: &Names<N>,
     rows: &[EntryRow<'x, R>],
 ) -> Result<(), Oom>
-    ensures { OnOk result (string_bytes text.new ++ line.new.bytes ≡ (string_bytes text.old ++ line.old.bytes) ++ row_lines mark.now names.now rows.now) }
+    ensures { OnOk result (string_bytes text.new ++ line.new.bytes ≡ (string_bytes text.old ++ line.old.bytes) ++ row_lines sign.now names.now rows.now) }
 {
     for row in rows {
-        put_entry(text, line, mark, names, row)?;
+        put_entry(text, line, sign, names, row)?;
     }
     Ok(())
 }
 
 /// Appends the rows that left, each after `- `, and then those that joined, each after `+ `, to the text, whose end is
-/// still in `line`.
+/// still gathered in `line`.
 #[tactic(auto, unfolding(crate::specs::Rows::change_lines))]
 pub(crate) fn put_both<A: Allocator, N: Allocator, R: Allocator>(
     text: &mut String<A>,
@@ -115,17 +117,17 @@ pub(crate) fn put_both<A: Allocator, N: Allocator, R: Allocator>(
     put_each(text, line, "+ ", names, joined)
 }
 
-/// Appends `mark`, the row and a line feed, for each of `rows`.
+/// Appends `sign`, the row and a line feed, for each of `rows`.
 pub fn put_rows<A: Allocator, N: Allocator, R: Allocator>(
     text: &mut String<A>,
-    mark: &str,
+    sign: &str,
     names: &Names<N>,
     rows: &[OnlineRow<R>],
 ) -> Result<(), Oom>
-    ensures { OnOk result (string_bytes text.new ≡ string_bytes text.old ++ row_lines mark.now names.now rows.now) }
+    ensures { OnOk result (string_bytes text.new ≡ string_bytes text.old ++ row_lines sign.now names.now rows.now) }
 {
     let mut line = Line::new();
-    put_each(text, &mut line, mark, names, rows)?;
+    put_each(text, &mut line, sign, names, rows)?;
     end(text, &line)
 }
 
@@ -196,6 +198,7 @@ pub fn put_reply<A: Allocator>(text: &mut String<A>, reply: Reply) -> Result<(),
     }
 }
 
+/// Appends each number after a space.
 #[tactic(auto, unfolding(crate::specs::Rows::spaced_numbers))]
 fn put_numbers<A: Allocator>(text: &mut String<A>, numbers: &[u64]) -> Result<(), Oom>
     ensures { OnOk result (string_bytes text.new ≡ string_bytes text.old ++ spaced_numbers numbers.now) }

@@ -17,7 +17,7 @@ pub fn node<'x, 'a, B: Allocator>(bench: &'x Bench<'a, B>, number: u16) -> Optio
     bench.node(number)
 }
 
-/// The online list of the node; empty if there is none.
+/// The online list of the node `found`; empty if that is `None`.
 pub fn list_of<'a, B: Allocator>(
     found: Option<&Node<'a, B>>,
     alloc: &'a B,

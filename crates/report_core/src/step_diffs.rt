@@ -75,8 +75,8 @@ pub fn step_diff<'a, B: Allocator>(
     inverse_diff(inverse, node, alloc)
 }
 
-/// Appends to the text, whose end is still in `line`, the rows that left the replica's online list in the call that gave
-/// `change`, each after `- `. `after` is the replica after that call.
+/// Appends the rows that left the replica's online list in the call that gave `change`, each after `- `. `after` is the
+/// replica after that call.
 fn put_taken_rows<'a, B: Allocator>(
     text: &mut String<&'a B>,
     line: &mut Line,
@@ -96,8 +96,8 @@ fn put_taken_rows<'a, B: Allocator>(
     }
 }
 
-/// Appends to the text, whose end is still in `line`, the rows that the call of `change` put into the online list of
-/// its replica, each after `+ `. `after` is the replica after that call.
+/// Appends the rows that joined the replica's online list in the call that gave `change`, each after `+ `. `after` is
+/// the replica after that call.
 fn put_given_rows<'a, B: Allocator>(
     text: &mut String<&'a B>,
     line: &mut Line,
@@ -137,8 +137,7 @@ fn put_change_rows<'a, B: Allocator>(
     put_given_rows(text, line, names, change, after, alloc)
 }
 
-/// Appends to the text, whose end is still in `line`, how the step of this inverse changed the online list of `node`.
-/// The node must be as that step left it.
+/// Appends how the step of this inverse changed the online list of `node`, which must be as that step left it.
 fn put_inverse<'a, B: Allocator>(
     text: &mut String<&'a B>,
     line: &mut Line,
@@ -163,8 +162,8 @@ fn put_inverse<'a, B: Allocator>(
     }
 }
 
-/// Appends to the text, whose end is still in `line`, how a step changed the online list of its node; nothing if the
-/// step doesn't remain. The step must have no consequence.
+/// Appends how a step changed the online list of its node; nothing if the step doesn't remain. The step must have no
+/// consequence.
 pub(crate) fn put_step<'a, B: Allocator>(
     bench: &Bench<'a, B>,
     text: &mut String<&'a B>,
@@ -206,8 +205,8 @@ pub fn asked_undo<'a, B: Allocator>(bench: &Bench<'a, B>, act: &Act<&'a B>) -> O
     }
 }
 
-/// How the step whose undo an act asks for had changed the online list of its node. No rows if the act is a step, or
-/// the undo will be refused.
+/// How the step that the act asks to undo had changed the online list of its node. No rows if the act is a step, or if
+/// the bench will refuse the undo.
 pub fn undo_diff<'a, B: Allocator>(
     bench: &Bench<'a, B>,
     act: &Act<&'a B>,

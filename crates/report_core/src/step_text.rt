@@ -27,7 +27,7 @@ fn put_presence<A: Allocator, W: Allocator>(
     let topic = topic.as_str();
     let key = key.as_str();
     let metadata = metadata.as_str();
-    // form: split in two for the proof
+    // form: in two pieces, which the proof takes one after the other
     write!(text, "{verb}{pid} {topic}")?;
     Ok(write!(text, " {key} {metadata}")?)
 }

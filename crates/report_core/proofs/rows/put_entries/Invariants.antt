@@ -5,4 +5,4 @@ use Rattle.report_core.proofs.rows.put_entries.Given as goal
 -- the rows so far
 abbrev pub invariant-loop-row : goal.invariant-loop-row
 invariant-loop-row g l =
-    string_bytes l.text ++ l.line.bytes ≡ (string_bytes l.fn.text ++ l.fn.line.bytes) ++ row_lines l.mark l.names (take l.row-index l.rows)
+    string_bytes l.text ++ l.line.bytes ≡ (string_bytes l.fn.text ++ l.fn.line.bytes) ++ row_lines l.sign l.names (take l.row-index l.rows)
