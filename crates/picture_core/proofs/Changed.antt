@@ -15,12 +15,12 @@ use Rattle.report_core.specs.StepDiffs.{Differ, TellsStep, TellsUndo, asked_undo
 use Rattle.report_core.proofs.StepDiffs.{acted_is, undoes}
 use Rattle.svg_core.specs.Trees.{Nothing, text_of}
 use Rattle.picture_core.proofs.Texts.{nothing_end}
-use Rattle.picture_core.specs.Online.{Asked, turn_at, with_call}
+use Rattle.picture_core.specs.Online.{Asked, switch_at, with_call}
 use Rattle.picture_core.specs.Rows.{is_drawn, node_changed, node_undone, row_if, row_of, row_told, with_row, with_words}
 use Rattle.picture_core.specs.Words.{title_of, title_told, words_of, words_told}
-use Rattle.picture_core.specs.declared.online.Turn.{Turn}
+use Rattle.picture_core.specs.declared.online.Switch.{Switch}
 use Rattle.picture_core.specs.declared.range.Range.{Range}
-use Rattle.picture_core.specs.declared.standing.Drawn.{Drawn}
+use Rattle.picture_core.specs.declared.shade.Drawn.{Drawn}
 
 -- what can be told of a step
 record Step (m : Machine) (n : ℕ) : Type 0 where
@@ -134,20 +134,20 @@ module _ (m next : Machine) (seen e : Event) (same : seen ≡ e) (reply : Reply)
           ∙ ap (λ t. old ++ text_of (row_if (length m.names) steps range (changed_by m e.actor e.act) row e t words)) (title_is consoles)
           ∙ ap (λ w. old ++ text_of (row_if (length m.names) steps range (changed_by m e.actor e.act) row e (title_of m consoles e) w)) (words_are consoles)
 
-      pub told_turn : (asked : Option Asked) (row : ℕ) (old new : List Turn) →
+      pub told_switch : (asked : Option Asked) (row : ℕ) (old new : List Switch) →
           ((before : List Row) → left ≡ alone before (rows_of next changed) → joined ≡ alone (rows_of next changed) before →
-          new ≡ old ++ turn_at asked row changed before (rows_of next changed)) →
+          new ≡ old ++ switch_at asked row changed before (rows_of next changed)) →
           new ≡ with_call asked m row e old
       unfolding left_by joined_by
-      told_turn asked row old new noted =
+      told_switch asked row old new noted =
           let c = changed_by m e.actor e.act in
           let before = rows_of m c in
           let after = rows_of (after_act m e.actor e.act) c in
           let now : rows_of next changed ≡ after =
           ap (λ (x : Machine). rows_of x changed) done_e ∙ ap (rows_of (after_act m e.actor e.act)) at_e in
           noted before (gone_e ∙ ap (alone before) (sym now)) (come_e ∙ ap (λ (rows : List Row). alone rows before) (sym now))
-          ∙ ap (λ (rows : List Row). old ++ turn_at asked row changed before rows) now
-          ∙ ap (λ (o : Option ℕ). old ++ turn_at asked row o before after) at_e
+          ∙ ap (λ (rows : List Row). old ++ switch_at asked row changed before rows) now
+          ∙ ap (λ (o : Option ℕ). old ++ switch_at asked row o before after) at_e
 
 -- a row that is not drawn
 pub undrawn : (nodes : ℕ) (steps : List Drawn) (range : Range) (changed : Option ℕ) (row : ℕ) (e : Event) (title words old : List ℕ) →

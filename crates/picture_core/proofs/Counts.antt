@@ -6,8 +6,8 @@ use Rattle.std.proofs.lemmas.Option.{get_or_from_slice_get}
 use Rattle.bench_core.specs.Machine.{Event}
 use Rattle.journal_core.specs.Journals.{Kept}
 use Rattle.picture_core.specs.Pictures.{calls_before, is_from}
-use Rattle.picture_core.specs.Standings.{noted_from, with_reply}
-use Rattle.picture_core.specs.declared.standing.Drawn.{Drawn}
+use Rattle.picture_core.specs.Shades.{noted_from, with_reply}
+use Rattle.picture_core.specs.declared.shade.Drawn.{Drawn}
 
 before_step : (beyond : Bool) (number : ℕ) (e : Event) (es : List Event) →
     calls_before beyond number (e ∷ es) ≡ (if is_from beyond number e.reply then 0 else 1 + calls_before beyond number es)

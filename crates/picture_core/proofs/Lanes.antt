@@ -10,7 +10,7 @@ use Rattle.picture_core.specs.Online.{Asked}
 use Rattle.picture_core.specs.Pictures.{bar_at, bars_from, lanes_from, names_from}
 use Rattle.picture_core.specs.Rows.{with_length}
 use Rattle.picture_core.specs.Shapes.{lane, lane_name}
-use Rattle.picture_core.specs.declared.online.Turn.{Turn}
+use Rattle.picture_core.specs.declared.online.Switch.{Switch}
 use Rattle.picture_core.specs.declared.range.Range.{Range}
 use Rattle.picture_core.proofs.Texts.{beside_text, nothing_text}
 
@@ -52,12 +52,12 @@ lanes_end : (range : Range) (nodes n : ℕ) → lanes_from range nodes n [] ≡ 
 unfolding lanes_from
 lanes_end range nodes n = refl
 
-bars_step : (asked : Option Asked) (nodes last : ℕ) (t : List Turn) (n : ℕ) (name : List ℕ) (names : Texts) →
+bars_step : (asked : Option Asked) (nodes last : ℕ) (t : List Switch) (n : ℕ) (name : List ℕ) (names : Texts) →
     bars_from asked nodes last t n (name ∷ names) ≡ beside (bar_at asked nodes last t n) (bars_from asked nodes last t (n + 1) names)
 unfolding bars_from
 bars_step asked nodes last t n name names = refl
 
-bars_end : (asked : Option Asked) (nodes last : ℕ) (t : List Turn) (n : ℕ) → bars_from asked nodes last t n [] ≡ Nothing
+bars_end : (asked : Option Asked) (nodes last : ℕ) (t : List Switch) (n : ℕ) → bars_from asked nodes last t n [] ≡ Nothing
 unfolding bars_from
 bars_end asked nodes last t n = refl
 
@@ -81,13 +81,13 @@ pub lanes_all : (range : Range) (nodes : ℕ) (names : Texts) (n : ℕ) (start n
     now ++ text_of (lanes_from range nodes n (drop n names)) ≡ start → now ≡ start
 lanes_all range nodes = all (lanes_from range nodes) (lanes_end range nodes)
 
-pub bars_more : (asked : Option Asked) (nodes last : ℕ) (t : List Turn) (names : Texts) (n : ℕ) (start now next : List ℕ) → n < length names →
+pub bars_more : (asked : Option Asked) (nodes last : ℕ) (t : List Switch) (names : Texts) (n : ℕ) (start now next : List ℕ) → n < length names →
     now ++ text_of (bars_from asked nodes last t n (drop n names)) ≡ start →
     next ≡ now ++ text_of (bar_at asked nodes last t n) →
     next ++ text_of (bars_from asked nodes last t (n + 1) (drop (n + 1) names)) ≡ start
 bars_more asked nodes last t = more (λ n name. bar_at asked nodes last t n) (bars_from asked nodes last t) (bars_step asked nodes last t)
 
-pub bars_all : (asked : Option Asked) (nodes last : ℕ) (t : List Turn) (names : Texts) (n : ℕ) (start now : List ℕ) → length names ≤ n →
+pub bars_all : (asked : Option Asked) (nodes last : ℕ) (t : List Switch) (names : Texts) (n : ℕ) (start now : List ℕ) → length names ≤ n →
     now ++ text_of (bars_from asked nodes last t n (drop n names)) ≡ start → now ≡ start
 bars_all asked nodes last t = all (bars_from asked nodes last t) (bars_end asked nodes last t)
 

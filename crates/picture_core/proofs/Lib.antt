@@ -1,5 +1,5 @@
 pub mod Texts
-pub mod Turns
+pub mod Switches
 pub mod Changed
 pub mod Walks
 pub mod Lanes

@@ -16,13 +16,13 @@ use Rattle.picture_core.specs.Pictures.{bar_at, bars_from, drawing, front, groun
 use Rattle.picture_core.specs.Rows.{is_drawn, is_seen, lane_of, looks, mark_at, message_between, message_by, message_of, message_of_act, message_of_reply, message_to, messages_from}
 use Rattle.picture_core.specs.Rows.{number_by, row_if, row_of, row_told, row_tree, rows_from}
 use Rattle.picture_core.specs.Shapes.{bar, cross_sign, dot_sign, heading, lane, lane_name, mark, message, number_label, titled, words_label}
-use Rattle.picture_core.specs.Standings.{step_at}
+use Rattle.picture_core.specs.Shades.{step_at}
 use Rattle.picture_core.specs.Words.{title_of, words_of}
 use Rattle.picture_core.specs.declared.kind.Kind.{Kind}
 use Rattle.picture_core.specs.declared.kind.Kind.TheVariants as kinds
-use Rattle.picture_core.specs.declared.online.Turn.{Turn}
+use Rattle.picture_core.specs.declared.online.Switch.{Switch}
 use Rattle.picture_core.specs.declared.range.Range.{Range}
-use Rattle.picture_core.specs.declared.standing.Drawn.{Drawn}
+use Rattle.picture_core.specs.declared.shade.Drawn.{Drawn}
 
 nothing_named : is_named Nothing ≡ true
 unfolding is_named
@@ -148,11 +148,11 @@ lanes_named range nodes n [] = nothing_named
 lanes_named range nodes n (name ∷ names) =
     named_beside (lane nodes n range.first range.last) _ (lane_named nodes n range.first range.last) (lanes_named range nodes (n + 1) names)
 
-bar_at_named : (asked : Option Asked) (nodes last : ℕ) (t : List Turn) (n : ℕ) → is_named (bar_at asked nodes last t n) ≡ true
+bar_at_named : (asked : Option Asked) (nodes last : ℕ) (t : List Switch) (n : ℕ) → is_named (bar_at asked nodes last t n) ≡ true
 bar_at_named None nodes last t n = nothing_named
 bar_at_named (Some asked) nodes last t n = if_named (is_of asked.node n) _ (bar_named (bar_path nodes n last t))
 
-bars_named : (asked : Option Asked) (nodes last : ℕ) (t : List Turn) (n : ℕ) (names : Texts) → is_named (bars_from asked nodes last t n names) ≡ true
+bars_named : (asked : Option Asked) (nodes last : ℕ) (t : List Switch) (n : ℕ) (names : Texts) → is_named (bars_from asked nodes last t n names) ≡ true
 unfolding bars_from
 bars_named asked nodes last t n [] = nothing_named
 bars_named asked nodes last t n (name ∷ names) =
@@ -171,7 +171,7 @@ unfolding is_named
 part_named top first width height t named = rw named refl
 
 -- what a picture holds
-pub drawing_named : (names : Texts) (range : Range) (asked : Option Asked) (t : List Turn) (bytes : ℕ) (messages rows : Tree) →
+pub drawing_named : (names : Texts) (range : Range) (asked : Option Asked) (t : List Switch) (bytes : ℕ) (messages rows : Tree) →
     is_named messages ≡ true → is_named rows ≡ true → is_named (drawing names range asked t bytes messages rows) ≡ true
 unfolding drawing
 drawing_named names range asked t bytes messages rows messages_are rows_are =

@@ -8,8 +8,8 @@ use Rattle.std.proofs.lemmas.Map.Views.{any-filter_same}
 use Rattle.diff_core.specs.Rows.{Row, is_among}
 use Rattle.diff_core.specs.Diffs.{alone}
 use Rattle.diff_core.proofs.Order.{is_row, is_row-itself, is_row-true}
-use Rattle.picture_core.specs.Online.{Asked, bar_path, end_path, is_asked, lists, turn_if, turn_path, turns_path}
-use Rattle.picture_core.specs.declared.online.Turn.{Turn}
+use Rattle.picture_core.specs.Online.{Asked, bar_path, end_path, is_asked, lists, switch_if, switch_path, switches_path}
+use Rattle.picture_core.specs.declared.online.Switch.{Switch}
 
 -- rows
 
@@ -121,37 +121,37 @@ was_so test before after =
     go (inl left) = back_left test before after left
     go (inr there) = back_beside test before after there
 
--- turns
+-- switches
 
-no_turn : (row node : ℕ) (b : Bool) → turn_if row node b b ≡ []
-no_turn row node true = refl
-no_turn row node false = refl
+no_switch : (row node : ℕ) (b : Bool) → switch_if row node b b ≡ []
+no_switch row node true = refl
+no_switch row node false = refl
 
 -- nothing of what is asked of left or joined
-pub unturned : (asked : Asked) (row node : ℕ) (turns : List Turn) (before after left joined : List Row) → lists asked left ≡ false →
+pub unswitched : (asked : Asked) (row node : ℕ) (switches : List Switch) (before after left joined : List Row) → lists asked left ≡ false →
     lists asked joined ≡ false → left ≡ alone before after → joined ≡ alone after before →
-    turns ≡ turns ++ turn_if row node (lists asked before) (lists asked after)
+    switches ≡ switches ++ switch_if row node (lists asked before) (lists asked after)
 unfolding lists
-unturned asked row node turns before after left joined none_left none_joined left_is joined_is =
+unswitched asked row node switches before after left joined none_left none_joined left_is joined_is =
     let test = is_asked asked in
     let stayed : list_any test before ≡ list_any test after =
     stays test before after (ap (list_any test) (sym left_is) ∙ none_left) (ap (list_any test) (sym joined_is) ∙ none_joined) in
-    sym (append-nil turns)
-    ∙ ap (λ t. turns ++ t)
-    (sym (ap (λ b. turn_if row node b (list_any test after)) stayed ∙ no_turn row node (list_any test after)))
+    sym (append-nil switches)
+    ∙ ap (λ t. switches ++ t)
+    (sym (ap (λ b. switch_if row node b (list_any test after)) stayed ∙ no_switch row node (list_any test after)))
 
 -- some did
-pub turned : (asked : Asked) (row node : ℕ) (turns new : List Turn) (before after left joined : List Row) (was now : Bool) →
+pub switched : (asked : Asked) (row node : ℕ) (switches new : List Switch) (before after left joined : List Row) (was now : Bool) →
     was ≡ (lists asked left || list_any (λ (r : Row). is_asked asked r && not (is_among joined r)) after) → now ≡ lists asked after →
-    new ≡ turns ++ turn_if row node was now → left ≡ alone before after → joined ≡ alone after before →
-    new ≡ turns ++ turn_if row node (lists asked before) (lists asked after)
+    new ≡ switches ++ switch_if row node was now → left ≡ alone before after → joined ≡ alone after before →
+    new ≡ switches ++ switch_if row node (lists asked before) (lists asked after)
 unfolding lists
-turned asked row node turns new before after left joined was now was_is now_is noted left_is joined_is =
+switched asked row node switches new before after left joined was now was_is now_is noted left_is joined_is =
     let test = is_asked asked in
     let before_is : was ≡ list_any test before =
     was_is ∙ ap (λ (l : List Row). list_any test l || list_any (beside test joined) after) left_is
     ∙ ap (λ (j : List Row). list_any test (alone before after) || list_any (beside test j) after) joined_is ∙ sym (was_so test before after) in
-    noted ∙ ap (λ b. turns ++ turn_if row node b now) before_is ∙ ap (λ b. turns ++ turn_if row node (list_any test before) b) now_is
+    noted ∙ ap (λ b. switches ++ switch_if row node b now) before_is ∙ ap (λ b. switches ++ switch_if row node (list_any test before) b) now_is
 
 -- what the code tells of before: some left, or some are there that did not join
 pub was_left : (asked : Asked) (was left_lists : Bool) (after left joined : List Row) → was ≡ left_lists → left_lists ≡ true →
@@ -168,55 +168,55 @@ was_beside asked was left_lists there after left joined was_is none of there_is 
 
 -- the path along them
 
-turns_step : (nodes node last : ℕ) (listing : Bool) (t : Turn) (turns : List Turn) →
-    turns_path nodes node last listing (t ∷ turns)
-    ≡ (if t.node == node then turn_path nodes t ++ turns_path nodes node last t.begins turns else turns_path nodes node last listing turns)
-unfolding turns_path
-turns_step nodes node last listing t turns = refl
+switches_step : (nodes node last : ℕ) (listing : Bool) (t : Switch) (switches : List Switch) →
+    switches_path nodes node last listing (t ∷ switches)
+    ≡ (if t.node == node then switch_path nodes t ++ switches_path nodes node last t.begins switches else switches_path nodes node last listing switches)
+unfolding switches_path
+switches_step nodes node last listing t switches = refl
 
-here : (nodes node last : ℕ) (listing : Bool) (turns : List Turn) (i : ℕ) (d : Turn) → i < length turns →
-    turns_path nodes node last listing (drop i turns)
-    ≡ (if (get_or turns i d).node == node then turn_path nodes (get_or turns i d) ++ turns_path nodes node last (get_or turns i d).begins (drop (i + 1) turns)
-    else turns_path nodes node last listing (drop (i + 1) turns))
-here nodes node last listing turns i d inside =
-    at_drop_more (turns_path nodes node last listing) turns i d inside ∙ turns_step nodes node last listing (get_or turns i d) (drop (i + 1) turns)
+here : (nodes node last : ℕ) (listing : Bool) (switches : List Switch) (i : ℕ) (d : Switch) → i < length switches →
+    switches_path nodes node last listing (drop i switches)
+    ≡ (if (get_or switches i d).node == node then switch_path nodes (get_or switches i d) ++ switches_path nodes node last (get_or switches i d).begins (drop (i + 1) switches)
+    else switches_path nodes node last listing (drop (i + 1) switches))
+here nodes node last listing switches i d inside =
+    at_drop_more (switches_path nodes node last listing) switches i d inside ∙ switches_step nodes node last listing (get_or switches i d) (drop (i + 1) switches)
 
--- a turn of the node
-pub path_more : (nodes node last : ℕ) (listing : Bool) (turns : List Turn) (i : ℕ) (d : Turn) (path next whole : List ℕ) → i < length turns →
-    ((get_or turns i d).node == node) ≡ true → path ++ turns_path nodes node last listing (drop i turns) ≡ whole →
-    next ≡ path ++ turn_path nodes (get_or turns i d) →
-    next ++ turns_path nodes node last (get_or turns i d).begins (drop (i + 1) turns) ≡ whole
-path_more nodes node last listing turns i d path next whole inside its so_far put =
-    let t = get_or turns i d in
-    let rest = turns_path nodes node last t.begins (drop (i + 1) turns) in
-    let split : turns_path nodes node last listing (drop i turns) ≡ turn_path nodes t ++ rest =
-    here nodes node last listing turns i d inside
-    ∙ ap (λ b. if b then turn_path nodes t ++ rest else turns_path nodes node last listing (drop (i + 1) turns)) its in
-    ap (λ p. p ++ rest) put ∙ append_assoc path (turn_path nodes t) rest ∙ ap (λ p. path ++ p) (sym split) ∙ so_far
+-- a switch of the node
+pub path_more : (nodes node last : ℕ) (listing : Bool) (switches : List Switch) (i : ℕ) (d : Switch) (path next whole : List ℕ) → i < length switches →
+    ((get_or switches i d).node == node) ≡ true → path ++ switches_path nodes node last listing (drop i switches) ≡ whole →
+    next ≡ path ++ switch_path nodes (get_or switches i d) →
+    next ++ switches_path nodes node last (get_or switches i d).begins (drop (i + 1) switches) ≡ whole
+path_more nodes node last listing switches i d path next whole inside its so_far put =
+    let t = get_or switches i d in
+    let rest = switches_path nodes node last t.begins (drop (i + 1) switches) in
+    let split : switches_path nodes node last listing (drop i switches) ≡ switch_path nodes t ++ rest =
+    here nodes node last listing switches i d inside
+    ∙ ap (λ b. if b then switch_path nodes t ++ rest else switches_path nodes node last listing (drop (i + 1) switches)) its in
+    ap (λ p. p ++ rest) put ∙ append_assoc path (switch_path nodes t) rest ∙ ap (λ p. path ++ p) (sym split) ∙ so_far
 
 -- one of another
-pub path_passed : (nodes node last : ℕ) (listing : Bool) (turns : List Turn) (i : ℕ) (d : Turn) (path whole : List ℕ) → i < length turns →
-    ((get_or turns i d).node == node) ≡ false → path ++ turns_path nodes node last listing (drop i turns) ≡ whole →
-    path ++ turns_path nodes node last listing (drop (i + 1) turns) ≡ whole
-path_passed nodes node last listing turns i d path whole inside other so_far =
-    let t = get_or turns i d in
-    let rest = turns_path nodes node last listing (drop (i + 1) turns) in
-    let same : turns_path nodes node last listing (drop i turns) ≡ rest =
-    here nodes node last listing turns i d inside
-    ∙ ap (λ b. if b then turn_path nodes t ++ turns_path nodes node last t.begins (drop (i + 1) turns) else rest) other in
+pub path_passed : (nodes node last : ℕ) (listing : Bool) (switches : List Switch) (i : ℕ) (d : Switch) (path whole : List ℕ) → i < length switches →
+    ((get_or switches i d).node == node) ≡ false → path ++ switches_path nodes node last listing (drop i switches) ≡ whole →
+    path ++ switches_path nodes node last listing (drop (i + 1) switches) ≡ whole
+path_passed nodes node last listing switches i d path whole inside other so_far =
+    let t = get_or switches i d in
+    let rest = switches_path nodes node last listing (drop (i + 1) switches) in
+    let same : switches_path nodes node last listing (drop i switches) ≡ rest =
+    here nodes node last listing switches i d inside
+    ∙ ap (λ b. if b then switch_path nodes t ++ switches_path nodes node last t.begins (drop (i + 1) switches) else rest) other in
     ap (λ p. path ++ p) (sym same) ∙ so_far
 
-turns_end : (nodes node last : ℕ) (listing : Bool) → turns_path nodes node last listing [] ≡ end_path listing last
-unfolding turns_path
-turns_end nodes node last listing = refl
+switches_end : (nodes node last : ℕ) (listing : Bool) → switches_path nodes node last listing [] ≡ end_path listing last
+unfolding switches_path
+switches_end nodes node last listing = refl
 
--- no turn is left
-pub path_all : (nodes node last : ℕ) (listing : Bool) (turns : List Turn) (i : ℕ) (path next whole : List ℕ) → length turns ≤ i →
-    path ++ turns_path nodes node last listing (drop i turns) ≡ whole → next ≡ path ++ end_path listing last → next ≡ whole
-path_all nodes node last listing turns i path next whole none so_far put =
+-- no switch is left
+pub path_all : (nodes node last : ℕ) (listing : Bool) (switches : List Switch) (i : ℕ) (path next whole : List ℕ) → length switches ≤ i →
+    path ++ switches_path nodes node last listing (drop i switches) ≡ whole → next ≡ path ++ end_path listing last → next ≡ whole
+path_all nodes node last listing switches i path next whole none so_far put =
     put
-    ∙ ap (λ p. path ++ p) (sym (at_drop_all (turns_path nodes node last listing) turns i none ∙ turns_end nodes node last listing)) ∙ so_far
+    ∙ ap (λ p. path ++ p) (sym (at_drop_all (switches_path nodes node last listing) switches i none ∙ switches_end nodes node last listing)) ∙ so_far
 
-pub bar_is : (nodes node last : ℕ) (turns : List Turn) → turns_path nodes node last false turns ≡ bar_path nodes node last turns
+pub bar_is : (nodes node last : ℕ) (switches : List Switch) → switches_path nodes node last false switches ≡ bar_path nodes node last switches
 unfolding bar_path
-bar_is nodes node last turns = refl
+bar_is nodes node last switches = refl

@@ -6,7 +6,7 @@ use Rattle.svg_core.proofs.Beside.{text_of-beside}
 use Rattle.picture_core.specs.Pictures.{front, ground, style}
 use Rattle.picture_core.specs.Rows.{looks, mark_at, number_by, row_tree}
 use Rattle.picture_core.specs.Shapes.{heading, titled, words_label}
-use Rattle.picture_core.specs.declared.standing.Drawn.{Drawn}
+use Rattle.picture_core.specs.declared.shade.Drawn.{Drawn}
 
 pub nothing_text : text_of Nothing ≡ []
 unfolding text_of

@@ -8,11 +8,11 @@ use Rattle.bench_core.specs.NameList.{Texts}
 use Rattle.report_core.specs.ActTexts.{after_act}
 use Rattle.svg_core.specs.Trees.{Tree, Nothing, beside, text_of}
 use Rattle.picture_core.specs.Online.{Asked, with_call}
-use Rattle.picture_core.specs.Pictures.{turns_from}
+use Rattle.picture_core.specs.Pictures.{switches_from}
 use Rattle.picture_core.specs.Rows.{longest_from, message_of, messages_from, row_of, rows_from, with_row}
-use Rattle.picture_core.specs.declared.online.Turn.{Turn}
+use Rattle.picture_core.specs.declared.online.Switch.{Switch}
 use Rattle.picture_core.specs.declared.range.Range.{Range}
-use Rattle.picture_core.specs.declared.standing.Drawn.{Drawn}
+use Rattle.picture_core.specs.declared.shade.Drawn.{Drawn}
 use Rattle.picture_core.proofs.Texts.{beside_text, nothing_text}
 
 -- a drawing
@@ -117,14 +117,14 @@ longest_end : (range : Range) (consoles : Texts) (m : Machine) (row : ℕ) (x : 
 unfolding longest_from
 longest_end range consoles m row x = refl
 
-turns_step : (asked : Option Asked) (m : Machine) (row : ℕ) (e : Event) (es : List Event) (t : List Turn) →
-    turns_from asked m row (e ∷ es) t ≡ turns_from asked (after_act m e.actor e.act) (row + 1) es (with_call asked m row e t)
-unfolding turns_from
-turns_step asked m row e es t = refl
+switches_step : (asked : Option Asked) (m : Machine) (row : ℕ) (e : Event) (es : List Event) (t : List Switch) →
+    switches_from asked m row (e ∷ es) t ≡ switches_from asked (after_act m e.actor e.act) (row + 1) es (with_call asked m row e t)
+unfolding switches_from
+switches_step asked m row e es t = refl
 
-turns_end : (asked : Option Asked) (m : Machine) (row : ℕ) (t : List Turn) → turns_from asked m row [] t ≡ t
-unfolding turns_from
-turns_end asked m row t = refl
+switches_end : (asked : Option Asked) (m : Machine) (row : ℕ) (t : List Switch) → switches_from asked m row [] t ≡ t
+unfolding switches_from
+switches_end asked m row t = refl
 
 pub longest_more : (range : Range) (consoles : Texts) (m next : Machine) (events : List Event) (n : ℕ) (e : Event) (start now x : ℕ) →
     n < length events → longest_from range consoles m n (drop n events) now ≡ start → slice_get events n ≡ Some e →
@@ -136,11 +136,11 @@ pub longest_all : (range : Range) (consoles : Texts) (m : Machine) (events : Lis
     longest_from range consoles m n (drop n events) now ≡ start → now ≡ start
 longest_all range consoles = noted_all (longest_from range consoles) (longest_end range consoles)
 
-pub turns_more : (asked : Option Asked) (m next : Machine) (events : List Event) (n : ℕ) (e : Event) (start now x : List Turn) →
-    n < length events → turns_from asked m n (drop n events) now ≡ start → slice_get events n ≡ Some e → next ≡ after_act m e.actor e.act →
-    x ≡ with_call asked m n e now → turns_from asked next (n + 1) (drop (n + 1) events) x ≡ start
-turns_more asked = noted (with_call asked) (turns_from asked) (turns_step asked)
+pub switches_more : (asked : Option Asked) (m next : Machine) (events : List Event) (n : ℕ) (e : Event) (start now x : List Switch) →
+    n < length events → switches_from asked m n (drop n events) now ≡ start → slice_get events n ≡ Some e → next ≡ after_act m e.actor e.act →
+    x ≡ with_call asked m n e now → switches_from asked next (n + 1) (drop (n + 1) events) x ≡ start
+switches_more asked = noted (with_call asked) (switches_from asked) (switches_step asked)
 
-pub turns_all : (asked : Option Asked) (m : Machine) (events : List Event) (n : ℕ) (start now : List Turn) → length events ≤ n →
-    turns_from asked m n (drop n events) now ≡ start → now ≡ start
-turns_all asked = noted_all (turns_from asked) (turns_end asked)
+pub switches_all : (asked : Option Asked) (m : Machine) (events : List Event) (n : ℕ) (start now : List Switch) → length events ≤ n →
+    switches_from asked m n (drop n events) now ≡ start → now ≡ start
+switches_all asked = noted_all (switches_from asked) (switches_end asked)

@@ -5,9 +5,9 @@ use Rattle.bench_core.specs.NameList.{Texts}
 use Rattle.svg_core.specs.Grammar.{DocumentLaw, IsDocument}
 use Rattle.svg_core.specs.Trees.{Tree, beside, element, end_text, opening_text, text_of}
 use Rattle.picture_core.specs.Online.{Asked}
-use Rattle.picture_core.specs.Pictures.{bars_from, drawing, front, head_height, height, lanes_from, longest, messages, names_from, part, picture, rows, size, text_around, turns, width}
-use Rattle.picture_core.specs.Standings.{drawn_steps}
-use Rattle.picture_core.specs.declared.online.Turn.{Turn}
+use Rattle.picture_core.specs.Pictures.{bars_from, drawing, front, head_height, height, lanes_from, longest, messages, names_from, part, picture, rows, size, text_around, switches, width}
+use Rattle.picture_core.specs.Shades.{drawn_steps}
+use Rattle.picture_core.specs.declared.online.Switch.{Switch}
 use Rattle.picture_core.specs.declared.range.Range.{Range}
 use Rattle.picture_core.proofs.Named.{drawing_named, messages_are_named, rows_are_named}
 use Rattle.picture_core.proofs.Texts.{beside_text, element_text, then_text}
@@ -17,7 +17,7 @@ regroup : (s f n p b l m r e : List ℕ) →
 regroup s f n p b l m r e = simp append_assoc
 
 -- it is that around the texts of its messages and rows
-pub drawing_text : (names : Texts) (range : Range) (asked : Option Asked) (t : List Turn) (bytes : ℕ) (messages rows : Tree) →
+pub drawing_text : (names : Texts) (range : Range) (asked : Option Asked) (t : List Switch) (bytes : ℕ) (messages rows : Tree) →
     text_of (drawing names range asked t bytes messages rows) ≡ text_around names range asked t bytes (text_of messages) (text_of rows)
 unfolding drawing text_around
 drawing_text names range asked t bytes messages rows =
@@ -44,15 +44,15 @@ drawing_text names range asked t bytes messages rows =
     ∙ sym (regroup (opening_text (codes "svg") outer) (text_of front) (text_of named) (opening_text (codes "svg") inner) (text_of bars) (text_of lanes) (text_of messages) (text_of rows) (end_text (codes "svg")))
 
 -- put together of what was drawn
-pub picture_text : (m : Machine) (consoles : Texts) (painted : List ℕ) (range : Range) (asked : Option Asked) (t : List Turn) (bytes : ℕ)
-    (over rowed : List ℕ) → t ≡ turns m asked → bytes ≡ longest m range consoles → over ≡ text_of (messages m (drawn_steps m painted) range) →
+pub picture_text : (m : Machine) (consoles : Texts) (painted : List ℕ) (range : Range) (asked : Option Asked) (t : List Switch) (bytes : ℕ)
+    (over rowed : List ℕ) → t ≡ switches m asked → bytes ≡ longest m range consoles → over ≡ text_of (messages m (drawn_steps m painted) range) →
     rowed ≡ text_of (rows m (drawn_steps m painted) range consoles) →
     text_of (picture m consoles painted range asked) ≡ text_around m.names range asked t bytes over rowed
 unfolding picture
-picture_text m consoles painted range asked t bytes over rowed turned long over_is rowed_is =
+picture_text m consoles painted range asked t bytes over rowed switched long over_is rowed_is =
     let steps = drawn_steps m painted in
-    drawing_text m.names range asked (turns m asked) (longest m range consoles) (messages m steps range) (rows m steps range consoles)
-    ∙ ap (λ x. text_around m.names range asked x (longest m range consoles) (text_of (messages m steps range)) (text_of (rows m steps range consoles))) (sym turned)
+    drawing_text m.names range asked (switches m asked) (longest m range consoles) (messages m steps range) (rows m steps range consoles)
+    ∙ ap (λ x. text_around m.names range asked x (longest m range consoles) (text_of (messages m steps range)) (text_of (rows m steps range consoles))) (sym switched)
     ∙ ap (λ x. text_around m.names range asked t x (text_of (messages m steps range)) (text_of (rows m steps range consoles))) (sym long)
     ∙ ap (λ x. text_around m.names range asked t bytes x (text_of (rows m steps range consoles))) (sym over_is)
     ∙ ap (text_around m.names range asked t bytes over) (sym rowed_is)
@@ -65,11 +65,11 @@ picture_document law m consoles painted range asked text is =
     let P : List ℕ → Type 0 = λ t. IsDocument t in
     subst P (sym is)
     (law (codes "svg") (size (width (length m.names) (longest m range consoles)) (head_height m.names + height range)) _
-    (drawing_named m.names range asked (turns m asked) (longest m range consoles) (messages m (drawn_steps m painted) range) (rows m (drawn_steps m painted) range consoles)
+    (drawing_named m.names range asked (switches m asked) (longest m range consoles) (messages m (drawn_steps m painted) range) (rows m (drawn_steps m painted) range consoles)
     (messages_are_named m (drawn_steps m painted) range) (rows_are_named m (drawn_steps m painted) range consoles)))
 
 -- what ten calls put behind a text
-pub around_text : (names : Texts) (range : Range) (asked : Option Asked) (t : List Turn) (bytes wide top high : ℕ) (over rowed : List ℕ)
+pub around_text : (names : Texts) (range : Range) (asked : Option Asked) (t : List Switch) (bytes wide top high : ℕ) (over rowed : List ℕ)
     (t0 t1 t2 t3 t4 t5 t6 t7 t8 t9 t10 : List ℕ) → wide ≡ width (length names) bytes → top ≡ head_height names → high ≡ height range →
     t1 ≡ t0 ++ opening_text (codes "svg") (size wide (top + high)) → t2 ≡ t1 ++ text_of front →
     t3 ≡ t2 ++ text_of (names_from (length names) top 0 names) → t4 ≡ t3 ++ opening_text (codes "svg") (part top range.first wide high) →

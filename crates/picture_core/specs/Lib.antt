@@ -1,5 +1,5 @@
 pub mod Plans
-pub mod Standings
+pub mod Shades
 pub mod Shapes
 pub mod Words
 pub mod Online

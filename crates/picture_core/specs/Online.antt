@@ -8,7 +8,7 @@ use Rattle.report_core.specs.ActRows.{changed_by}
 use Rattle.report_core.specs.ActTexts.{after_act}
 use Rattle.report_core.specs.Shown.{rows_of}
 use Rattle.picture_core.specs.Plans.{across, down}
-use Rattle.picture_core.specs.declared.online.Turn.{Turn}
+use Rattle.picture_core.specs.declared.online.Switch.{Switch}
 
 -- a topic and key, and the node that is asked about, or none for each
 pub record Asked : Type 0 where
@@ -23,33 +23,33 @@ is_asked asked row = bytes_eq row.topic asked.topic && bytes_eq row.key asked.ke
 unfoldable pub lists : Asked → List Row → Bool
 lists asked rows = list_any (is_asked asked) rows
 
--- a turn at this row, if the node listed some before and doesn't now, or the other way round
-abbrev pub turn_if : ℕ → ℕ → Bool → Bool → List Turn
-turn_if row node was now =
+-- a switch at this row, if the node listed some before and doesn't now, or the other way round
+abbrev pub switch_if : ℕ → ℕ → Bool → Bool → List Switch
+switch_if row node was now =
     if was then (if now then [] else record { row = row; node = node; begins = false } ∷ [])
     else (if now then record { row = row; node = node; begins = true } ∷ [] else [])
 
--- the turn of a call at this row that changed the online list of the node from the first of these to the second
-abbrev pub turn_of : Asked → ℕ → Option ℕ → List Row → List Row → List Turn
-turn_of asked row None before after = []
-turn_of asked row (Some node) before after = turn_if row node (lists asked before) (lists asked after)
+-- the switch of a call at this row that changed the online list of the node from the first of these to the second
+abbrev pub switch_of : Asked → ℕ → Option ℕ → List Row → List Row → List Switch
+switch_of asked row None before after = []
+switch_of asked row (Some node) before after = switch_if row node (lists asked before) (lists asked after)
 
-unfoldable pub turn_at : Option Asked → ℕ → Option ℕ → List Row → List Row → List Turn
-turn_at None row changed before after = []
-turn_at (Some asked) row changed before after = turn_of asked row changed before after
+unfoldable pub switch_at : Option Asked → ℕ → Option ℕ → List Row → List Row → List Switch
+switch_at None row changed before after = []
+switch_at (Some asked) row changed before after = switch_of asked row changed before after
 
--- the turn of a call that a machine is asked
-abbrev pub turn_by : Option Asked → Machine → ℕ → Event → List Turn
-turn_by asked m row e =
-    turn_at asked row (changed_by m e.actor e.act) (rows_of m (changed_by m e.actor e.act))
+-- the switch of a call that a machine is asked
+abbrev pub switch_by : Option Asked → Machine → ℕ → Event → List Switch
+switch_by asked m row e =
+    switch_at asked row (changed_by m e.actor e.act) (rows_of m (changed_by m e.actor e.act))
     (rows_of (after_act m e.actor e.act) (changed_by m e.actor e.act))
 
-abbrev pub with_call : Option Asked → Machine → ℕ → Event → List Turn → List Turn
-with_call asked m row e turns = turns ++ turn_by asked m row e
+abbrev pub with_call : Option Asked → Machine → ℕ → Event → List Switch → List Switch
+with_call asked m row e switches = switches ++ switch_by asked m row e
 
--- the path of a turn: the pen goes to where a node begins to list some, and draws to where it ends
-abbrev pub turn_path : ℕ → Turn → List ℕ
-turn_path nodes t =
+-- the path of a switch: the pen goes to where a node begins to list some, and draws to where it ends
+abbrev pub switch_path : ℕ → Switch → List ℕ
+switch_path nodes t =
     if t.begins then codes "M" ++ decimal (across nodes t.node) ++ codes " " ++ decimal (down t.row)
     else codes "V" ++ decimal (down t.row)
 
@@ -57,11 +57,11 @@ turn_path nodes t =
 abbrev pub end_path : Bool → ℕ → List ℕ
 end_path listing last = if listing then codes "V" ++ decimal (20 * last) else []
 
--- the path of these turns, from where the pen is; `listing` says whether the node lists some there
-unfoldable pub turns_path : ℕ → ℕ → ℕ → Bool → List Turn → List ℕ
-turns_path nodes node last listing [] = end_path listing last
-turns_path nodes node last listing (t ∷ turns) =
-    if t.node == node then turn_path nodes t ++ turns_path nodes node last t.begins turns else turns_path nodes node last listing turns
+-- the path of these switches, from where the pen is; `listing` says whether the node lists some there
+unfoldable pub switches_path : ℕ → ℕ → ℕ → Bool → List Switch → List ℕ
+switches_path nodes node last listing [] = end_path listing last
+switches_path nodes node last listing (t ∷ switches) =
+    if t.node == node then switch_path nodes t ++ switches_path nodes node last t.begins switches else switches_path nodes node last listing switches
 
-unfoldable pub bar_path : ℕ → ℕ → ℕ → List Turn → List ℕ
-bar_path nodes node last turns = turns_path nodes node last false turns
+unfoldable pub bar_path : ℕ → ℕ → ℕ → List Switch → List ℕ
+bar_path nodes node last switches = switches_path nodes node last false switches

@@ -11,10 +11,10 @@ use Rattle.picture_core.specs.Online.{Asked, bar_path, with_call}
 use Rattle.picture_core.specs.Plans.{across, wide}
 use Rattle.picture_core.specs.Rows.{longest_from, messages_from, rows_from, with_length}
 use Rattle.picture_core.specs.Shapes.{attribute, bar, lane, lane_name}
-use Rattle.picture_core.specs.Standings.{drawn_steps}
-use Rattle.picture_core.specs.declared.online.Turn.{Turn}
+use Rattle.picture_core.specs.Shades.{drawn_steps}
+use Rattle.picture_core.specs.declared.online.Switch.{Switch}
 use Rattle.picture_core.specs.declared.range.Range.{Range}
-use Rattle.picture_core.specs.declared.standing.Drawn.{Drawn}
+use Rattle.picture_core.specs.declared.shade.Drawn.{Drawn}
 
 -- how the classes look: what was taken back pale and struck, what is painted bold
 unfoldable pub style_text : List ℕ
@@ -90,24 +90,24 @@ lanes_from range nodes n [] = Nothing
 lanes_from range nodes n (name ∷ names) = beside (lane nodes n range.first range.last) (lanes_from range nodes (n + 1) names)
 
 -- where nodes begin and end to list what is asked about
-unfoldable pub turns_from : Option Asked → Machine → ℕ → List Event → List Turn → List Turn
-turns_from asked m row [] turns = turns
-turns_from asked m row (e ∷ events) turns =
-    turns_from asked (after_act m e.actor e.act) (row + 1) events (with_call asked m row e turns)
+unfoldable pub switches_from : Option Asked → Machine → ℕ → List Event → List Switch → List Switch
+switches_from asked m row [] switches = switches
+switches_from asked m row (e ∷ events) switches =
+    switches_from asked (after_act m e.actor e.act) (row + 1) events (with_call asked m row e switches)
 
 abbrev pub is_of : Option ℕ → ℕ → Bool
 is_of None node = true
 is_of (Some n) node = n == node
 
 -- the thick parts of the lanes of the nodes that are asked about
-abbrev pub bar_at : Option Asked → ℕ → ℕ → List Turn → ℕ → Tree
-bar_at None nodes last turns node = Nothing
-bar_at (Some asked) nodes last turns node = if is_of asked.node node then bar (bar_path nodes node last turns) else Nothing
+abbrev pub bar_at : Option Asked → ℕ → ℕ → List Switch → ℕ → Tree
+bar_at None nodes last switches node = Nothing
+bar_at (Some asked) nodes last switches node = if is_of asked.node node then bar (bar_path nodes node last switches) else Nothing
 
-unfoldable pub bars_from : Option Asked → ℕ → ℕ → List Turn → ℕ → Texts → Tree
-bars_from asked nodes last turns n [] = Nothing
-bars_from asked nodes last turns n (name ∷ names) =
-    beside (bar_at asked nodes last turns n) (bars_from asked nodes last turns (n + 1) names)
+unfoldable pub bars_from : Option Asked → ℕ → ℕ → List Switch → ℕ → Texts → Tree
+bars_from asked nodes last switches n [] = Nothing
+bars_from asked nodes last switches n (name ∷ names) =
+    beside (bar_at asked nodes last switches n) (bars_from asked nodes last switches (n + 1) names)
 
 -- the whole
 
@@ -121,8 +121,8 @@ messages m steps range = messages_from (length m.names) steps range (opened m) 0
 unfoldable pub rows : Machine → List Drawn → Range → Texts → Tree
 rows m steps range consoles = rows_from (length m.names) steps range consoles (opened m) 0 m.state.history
 
-unfoldable pub turns : Machine → Option Asked → List Turn
-turns m asked = turns_from asked (opened m) 0 m.state.history []
+unfoldable pub switches : Machine → Option Asked → List Switch
+switches m asked = switches_from asked (opened m) 0 m.state.history []
 
 unfoldable pub longest : Machine → Range → Texts → ℕ
 longest m range consoles = longest_from range consoles (opened m) 0 m.state.history 0
@@ -155,28 +155,28 @@ abbrev pub part : ℕ → ℕ → ℕ → ℕ → List Attribute
 part top first width height = part_of top width height (view_box (20 * first) width height)
 
 -- the picture with these messages and rows
-unfoldable pub drawing : Texts → Range → Option Asked → List Turn → ℕ → Tree → Tree → Tree
-drawing names range asked turns bytes messages rows =
+unfoldable pub drawing : Texts → Range → Option Asked → List Switch → ℕ → Tree → Tree → Tree
+drawing names range asked switches bytes messages rows =
     element (codes "svg") (size (width (length names) bytes) (head_height names + height range))
     (beside front
     (beside (names_from (length names) (head_height names) 0 names)
     (element (codes "svg") (part (head_height names) range.first (width (length names) bytes) (height range))
-    (beside (bars_from asked (length names) range.last turns 0 names)
+    (beside (bars_from asked (length names) range.last switches 0 names)
     (beside (lanes_from range (length names) 0 names)
     (beside messages rows))))))
 
 -- the text of that picture, with these texts in place of its messages and its rows
-unfoldable pub text_around : Texts → Range → Option Asked → List Turn → ℕ → List ℕ → List ℕ → List ℕ
-text_around names range asked turns bytes messages rows =
+unfoldable pub text_around : Texts → Range → Option Asked → List Switch → ℕ → List ℕ → List ℕ → List ℕ
+text_around names range asked switches bytes messages rows =
     opening_text (codes "svg") (size (width (length names) bytes) (head_height names + height range)) ++ text_of front ++
     text_of (names_from (length names) (head_height names) 0 names) ++
     opening_text (codes "svg") (part (head_height names) range.first (width (length names) bytes) (height range)) ++
-    text_of (bars_from asked (length names) range.last turns 0 names) ++ text_of (lanes_from range (length names) 0 names) ++ messages ++
+    text_of (bars_from asked (length names) range.last switches 0 names) ++ text_of (lanes_from range (length names) 0 names) ++ messages ++
     rows ++ end_text (codes "svg") ++ end_text (codes "svg")
 
 -- the whole picture: the names above; below them the thick parts of the lanes, the lanes over them, the messages over these, and
 -- the rows
 unfoldable pub picture : Machine → Texts → List ℕ → Range → Option Asked → Tree
 picture m consoles painted range asked =
-    drawing m.names range asked (turns m asked) (longest m range consoles) (messages m (drawn_steps m painted) range)
+    drawing m.names range asked (switches m asked) (longest m range consoles) (messages m (drawn_steps m painted) range)
     (rows m (drawn_steps m painted) range consoles)

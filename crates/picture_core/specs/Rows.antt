@@ -12,12 +12,12 @@ use Rattle.report_core.specs.ActTexts.{after_act}
 use Rattle.report_core.specs.Shown.{node_of_step}
 use Rattle.svg_core.specs.Trees.{Tree, Nothing, beside}
 use Rattle.picture_core.specs.Shapes.{kind_of, mark, message, number_label, words_label}
-use Rattle.picture_core.specs.Standings.{of_message, step_at}
+use Rattle.picture_core.specs.Shades.{of_message, step_at}
 use Rattle.picture_core.specs.Words.{title_of, words_of}
 use Rattle.picture_core.specs.declared.kind.Kind.{Kind}
 use Rattle.picture_core.specs.declared.kind.Kind.TheVariants as kinds
 use Rattle.picture_core.specs.declared.range.Range.{Range}
-use Rattle.picture_core.specs.declared.standing.Drawn.{Drawn}
+use Rattle.picture_core.specs.declared.shade.Drawn.{Drawn}
 
 -- whether the row is drawn
 abbrev pub is_drawn : Range → ℕ → Bool
@@ -32,7 +32,7 @@ abbrev pub message_between : ℕ → List Drawn → Range → ℕ → ℕ → �
 message_between nodes steps range row number node sender None = Nothing
 message_between nodes steps range row number node sender (Some source) =
     if is_seen range (step_at steps source).row row then
-    message nodes (kind_of (of_message (step_at steps number).standing (step_at steps source).standing))
+    message nodes (kind_of (of_message (step_at steps number).shade (step_at steps source).shade))
     ((step_at steps source).row, sender) (row, node) source number
     else Nothing
 
@@ -62,7 +62,7 @@ message_of nodes steps range remaining row e = message_of_reply nodes steps rang
 
 -- how a call looks
 unfoldable pub looks : List Drawn → Reply → Kind
-looks steps (Taken number) = kind_of (step_at steps number).standing
+looks steps (Taken number) = kind_of (step_at steps number).shade
 looks steps (Undone number) = kinds.Back
 looks steps (Refused fault) = kinds.Refused
 

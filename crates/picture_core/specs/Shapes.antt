@@ -4,14 +4,14 @@ use Rattle.svg_core.specs.Trees.{Attribute, Tree, beside, element, leaf}
 use Rattle.picture_core.specs.Plans.{across, down, waits_at}
 use Rattle.picture_core.specs.declared.kind.Kind.{Kind}
 use Rattle.picture_core.specs.declared.kind.Kind.TheVariants as kinds
-use Rattle.picture_core.specs.declared.standing.Standing.{Standing}
-use Rattle.picture_core.specs.declared.standing.Standing.TheVariants.{Remains, Painted, Undone}
+use Rattle.picture_core.specs.declared.shade.Shade.{Shade}
+use Rattle.picture_core.specs.declared.shade.Shade.TheVariants.{Remains, Painted, Undone}
 
 abbrev pub attribute : List ℕ → List ℕ → Attribute
 attribute name value = record { name = name; value = value }
 
--- how a call looks, and the class of its shapes: a step by its standing, a call that takes a step back, or a refused one
-abbrev pub kind_of : Standing → Kind
+-- how a call looks, and the class of its shapes: a step by its shade, a call that takes a step back, or a refused one
+abbrev pub kind_of : Shade → Kind
 kind_of Remains = kinds.Step
 kind_of Painted = kinds.Future
 kind_of Undone = kinds.Undone

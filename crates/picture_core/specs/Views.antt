@@ -8,7 +8,7 @@ use Rattle.bench_core.specs.NameList.{Texts, number_in}
 use Rattle.svg_core.specs.Trees.{text_of}
 use Rattle.picture_core.specs.Online.{Asked}
 use Rattle.picture_core.specs.Pictures.{picture, range_of}
-use Rattle.picture_core.specs.Standings.{painted_of}
+use Rattle.picture_core.specs.Shades.{painted_of}
 use Rattle.picture_core.specs.declared.draw_fault.DrawFault.{DrawFault}
 use Rattle.picture_core.specs.declared.draw_fault.DrawFault.TheVariants as faults
 use Rattle.picture_core.specs.declared.view.Presence.{Presence}

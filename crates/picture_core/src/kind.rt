@@ -2,7 +2,7 @@
 ghost use Rattle.std.specs.Prelude.{◌≡◌};
 ghost use Rattle.picture_core.specs.Shapes.{class_of, kind_of};
 
-use crate::standing::Standing;
+use crate::shade::Shade;
 
 /// How a call or a message looks. A message has one of the first three kinds.
 #[derive(Clone, Copy, Debug, PartialEq, Eq)]
@@ -20,14 +20,14 @@ pub enum Kind {
 }
 
 impl Kind {
-    /// The kind of a step or a message with this `Standing`.
-    pub fn of(standing: Standing) -> Kind
-        ensures { result ≡ kind_of standing }
+    /// The kind of a step or a message with this `Shade`.
+    pub fn of(shade: Shade) -> Kind
+        ensures { result ≡ kind_of shade }
     {
-        match standing {
-            Standing::Remains => Kind::Step,
-            Standing::Painted => Kind::Future,
-            Standing::Undone => Kind::Undone,
+        match shade {
+            Shade::Remains => Kind::Step,
+            Shade::Painted => Kind::Future,
+            Shade::Undone => Kind::Undone,
         }
     }
 

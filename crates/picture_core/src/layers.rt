@@ -6,15 +6,15 @@ ghost use Rattle.report_core.specs.ActRows.{acted_text};
 ghost use Rattle.report_core.specs.ActTexts.{after_act};
 ghost use Rattle.report_core.specs.Shown.{rows_of};
 ghost use Rattle.svg_core.specs.Trees.{text_of};
-ghost use Rattle.picture_core.specs.Online.{turn_at, with_call};
-ghost use Rattle.picture_core.specs.Pictures.{longest, messages, rows, turns, turns_from};
+ghost use Rattle.picture_core.specs.Online.{switch_at, with_call};
+ghost use Rattle.picture_core.specs.Pictures.{longest, messages, rows, switches, switches_from};
 ghost use Rattle.picture_core.specs.Rows.{longest_from, message_of, messages_from, row_if, row_of, row_told, rows_from, with_length, with_row, with_words};
 ghost use Rattle.picture_core.specs.Words.{title_told, words_told};
 
-use crate::online::{Asked, Turn, note_turn};
+use crate::online::{Asked, Switch, note_switch};
 use crate::range::Range;
 use crate::rows::{lane_of, node_changed, node_undone, put_message_of, put_row};
-use crate::standing::Drawn;
+use crate::shade::Drawn;
 use crate::words::{title_of, words_of};
 use bench_core::{Bench, Event, History, Names, TextSet};
 use payload_core::Oom;
@@ -29,7 +29,7 @@ pub struct Layers<'a, B: Allocator> {
     pub messages: String<&'a B>,
     pub rows: String<&'a B>,
     pub longest: u32,
-    pub turns: Vec<Turn, &'a B>,
+    pub switches: Vec<Switch, &'a B>,
 }
 
 /// The greater of `longest` and `bytes`. More than 4096 bytes, the most that a line of a script has, count as 4096.
@@ -63,7 +63,7 @@ fn put_drawn<'a, N: Allocator, B: Allocator>(
     ensures longest { OnOk result (layers.new.longest ≡ with_length layers.old.longest
         (length (words_told names.now consoles.now event.now acted.now.change.left.items acted.now.change.joined.items))) }
     ensures messages { layers.new.messages ≡ layers.old.messages }
-    ensures turns { layers.new.turns ≡ layers.old.turns }
+    ensures switches { layers.new.switches ≡ layers.old.switches }
 {
     let nodes = names.len() as u32;
     let lane = lane_of(nodes, event.actor, event.reply, changed);
@@ -109,13 +109,13 @@ fn put_told<'a, B: Allocator>(
     ensures longest { OnOk result (layers.new.longest ≡ with_words range row
         (words_told asked.now.names consoles.now event.now acted.now.change.left.items acted.now.change.joined.items) layers.old.longest) }
     ensures messages { layers.new.messages ≡ layers.old.messages }
-    ensures turns { OnOk result ((before : List Row) → acted.now.change.left.items ≡ alone before (rows_of asked.now changed) →
+    ensures switches { OnOk result ((before : List Row) → acted.now.change.left.items ≡ alone before (rows_of asked.now changed) →
         acted.now.change.joined.items ≡ alone (rows_of asked.now changed) before →
-        layers.new.turns.items ≡ layers.old.turns.items ++ turn_at (option_copied of.entry) row changed before (rows_of asked.now changed)) }
+        layers.new.switches.items ≡ layers.old.switches.items ++ switch_at (option_copied of.entry) row changed before (rows_of asked.now changed)) }
 {
-    note_turn(
+    note_switch(
         asked,
-        &mut layers.turns,
+        &mut layers.switches,
         of,
         row,
         changed,
@@ -157,7 +157,7 @@ fn put_event<'a, B: Allocator>(
     ensures rows { OnOk result (string_bytes layers.new.rows ≡ string_bytes layers.old.rows ++
         text_of (row_of (length asked.old.names) steps.now range consoles.now asked.old row event.now)) }
     ensures longest { OnOk result (layers.new.longest ≡ with_row range consoles.now asked.old row event.now layers.old.longest) }
-    ensures turns { OnOk result (layers.new.turns.items ≡ with_call (option_copied of.entry) asked.old row event.now layers.old.turns.items) }
+    ensures switches { OnOk result (layers.new.switches.items ≡ with_call (option_copied of.entry) asked.old row event.now layers.old.switches.items) }
 {
     let nodes = asked.names().len() as u32;
     put_message_of(
@@ -198,7 +198,7 @@ fn put_events<'a, B: Allocator>(
     ensures rows { OnOk result (string_bytes layers.new.rows ≡ string_bytes layers.old.rows ++
         text_of (rows_from (length asked.old.names) steps.now range consoles.now asked.old 0 history.now)) }
     ensures longest { OnOk result (layers.new.longest ≡ longest_from range consoles.now asked.old 0 history.now layers.old.longest) }
-    ensures turns { OnOk result (layers.new.turns.items ≡ turns_from (option_copied of.entry) asked.old 0 history.now layers.old.turns.items) }
+    ensures switches { OnOk result (layers.new.switches.items ≡ switches_from (option_copied of.entry) asked.old 0 history.now layers.old.switches.items) }
 {
     for place in 0..history.len() {
         let event = history.at(place).unwrap();
@@ -219,7 +219,7 @@ fn put_events<'a, B: Allocator>(
 
 /// What is drawn of the calls that a bench recorded: the rows in `range`, the messages that `range` shows, and every
 /// change of a lane for the topic and key in `of`. To draw the calls, `layers_of` makes them again on a new bench.
-#[tactic(auto, unfolding(crate::specs::Pictures::messages, crate::specs::Pictures::rows, crate::specs::Pictures::longest, crate::specs::Pictures::turns))]
+#[tactic(auto, unfolding(crate::specs::Pictures::messages, crate::specs::Pictures::rows, crate::specs::Pictures::longest, crate::specs::Pictures::switches))]
 pub fn layers_of<'a, B: Allocator>(
     bench: &Bench<'a, B>,
     consoles: &TextSet<&'a B>,
@@ -231,7 +231,7 @@ pub fn layers_of<'a, B: Allocator>(
     ensures messages { IfOk result (λ layers. string_bytes layers.messages ≡ text_of (messages bench.now steps.now range)) }
     ensures rows { IfOk result (λ layers. string_bytes layers.rows ≡ text_of (rows bench.now steps.now range consoles.now)) }
     ensures longest { IfOk result (λ layers. layers.longest ≡ longest bench.now range consoles.now) }
-    ensures turns { IfOk result (λ layers. layers.turns.items ≡ turns bench.now (option_copied of.entry)) }
+    ensures switches { IfOk result (λ layers. layers.switches.items ≡ switches bench.now (option_copied of.entry)) }
 {
     // form: hands out what the bench keeps
     bench.bench_law();
@@ -241,7 +241,7 @@ pub fn layers_of<'a, B: Allocator>(
         messages: String::new(alloc),
         rows: String::new(alloc),
         longest: 0,
-        turns: Vec::new(alloc),
+        switches: Vec::new(alloc),
     };
     let drawn = put_events(
         &mut asked,
@@ -254,7 +254,7 @@ pub fn layers_of<'a, B: Allocator>(
         alloc,
     );
     // form: drop before exit
-    drop(asked);
+    asked.discard();
     drawn?;
     Ok(layers)
 }

@@ -1,9 +1,10 @@
-//! Draws a bench as a picture, in SVG, in which time goes down.
+//! Draws a bench as a picture, in SVG, in which time goes down. Here each recorded call has a row of the picture, and a
+//! circle or a cross in that row as its mark; neither is a row of an online list or a mark of `order_core`.
 //!
 //! The crate stands on `bench_core` (the machine), `diff_core` (online lists), `report_core` (what calls changed),
 //! `transcript_core` (calls as lines) and `svg_core` (elements), and names the plain types of the crates below.
 //!
-//! The modules in reading order: `plan`, where things stand; `standing`, whether a step remains, and `kind`, how a call
+//! The modules in reading order: `plan`, where things stand; `shade`, whether a step remains, and `kind`, how a call
 //! looks; `shapes`, a lane, a message, a mark, words; `range`, which rows are drawn; `words`, the words of a row;
 //! `online`, where lanes are thick; `rows`, what is drawn of one recorded call, and `layers`, what is drawn of all;
 //! `picture`, the whole picture; `view`, what is asked for; `draw_fault`, why nothing is drawn.
@@ -17,8 +18,8 @@ mod picture;
 mod plan;
 mod range;
 mod rows;
+mod shade;
 mod shapes;
-mod standing;
 mod view;
 mod words;
 

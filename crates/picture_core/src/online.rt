@@ -5,7 +5,7 @@ ghost use Rattle.std.specs.List.{list_any};
 ghost use Rattle.diff_core.specs.Diffs.{alone};
 ghost use Rattle.diff_core.specs.Rows.{Row, is_among};
 ghost use Rattle.report_core.specs.Shown.{rows_at, rows_of};
-ghost use Rattle.picture_core.specs.Online.{bar_path, end_path, is_asked, lists, turn_at, turn_if, turn_path};
+ghost use Rattle.picture_core.specs.Online.{bar_path, end_path, is_asked, lists, switch_at, switch_if, switch_path};
 ghost use Rattle.picture_core.specs.Pictures.{is_of};
 
 use crate::plan::{across, down};
@@ -32,10 +32,9 @@ impl<A: Allocator> Model for Asked<A> {
     ghost view = { λ a. record { node = a.node; topic = a.topic; key = a.key } };
 }
 
-/// A change of a node's lane: the row at which the node begins or stops listing what is asked about. Such a turn has
-/// nothing to do with the turns in which `order_core` finds an order.
+/// A change of a node's lane: the row at which the node begins or stops listing what is asked about.
 #[derive(Clone, Copy, Debug, PartialEq, Eq)]
-pub struct Turn {
+pub struct Switch {
     pub row: u32,
     pub node: u32,
     pub begins: bool,
@@ -68,6 +67,7 @@ fn lists<A: Allocator, R: Allocator>(asked: &Asked<A>, rows: &[OnlineRow<R>]) ->
     rows.iter().any(|row| is_asked(asked, row))
 }
 
+/// Whether the row is one of `rows`.
 fn is_among<A: Allocator>(rows: &[OnlineRow<A>], row: &OnlineRow<A>) -> bool
     ensures { result ≡ is_among rows.now row.now }
 {
@@ -88,20 +88,20 @@ fn lists_beside<A: Allocator, R: Allocator>(
 
 /// Appends a change of the node's lane if the node began or stopped listing what is asked about, that is, if `was` and
 /// `now` differ.
-fn push_turn<A: Allocator>(
-    turns: &mut Vec<Turn, A>,
+fn push_switch<A: Allocator>(
+    switches: &mut Vec<Switch, A>,
     row: u32,
     node: u32,
     was: bool,
     now: bool,
 ) -> Result<(), Oom>
-    ensures { OnOk result (turns.new.items ≡ turns.old.items ++ turn_if row node was now) }
+    ensures { OnOk result (switches.new.items ≡ switches.old.items ++ switch_if row node was now) }
 {
     if was == now {
         return Ok(());
     }
     let begins = now;
-    Ok(turns.push(Turn { row, node, begins })?)
+    Ok(switches.push(Switch { row, node, begins })?)
 }
 
 /// Appends a change of the node's lane, if the call in this row made the node begin or stop listing what is asked
@@ -109,7 +109,7 @@ fn push_turn<A: Allocator>(
 /// after the call, and `change` how the call changed the node's online list.
 fn note_change<'a, B: Allocator, W: Allocator>(
     bench: &Bench<'a, B>,
-    turns: &mut Vec<Turn, &'a B>,
+    switches: &mut Vec<Switch, &'a B>,
     asked: &Asked<W>,
     row: u32,
     node: u16,
@@ -118,7 +118,7 @@ fn note_change<'a, B: Allocator, W: Allocator>(
 ) -> Result<(), Oom>
     ensures { OnOk result ((before : List Row) → change.now.left.items ≡ alone before (rows_at bench.now node) →
         change.now.joined.items ≡ alone (rows_at bench.now node) before →
-        turns.new.items ≡ turns.old.items ++ turn_if row node (lists asked.now before) (lists asked.now (rows_at bench.now node))) }
+        switches.new.items ≡ switches.old.items ++ switch_if row node (lists asked.now before) (lists asked.now (rows_at bench.now node))) }
 {
     let left = lists(asked, &change.left);
     if !left && !lists(asked, &change.joined) {
@@ -129,16 +129,16 @@ fn note_change<'a, B: Allocator, W: Allocator>(
     let was = left || lists_beside(asked, &rows, &change.joined);
     // form: drop before exit
     drop(rows);
-    push_turn(turns, row, u32::from(node), was, now)
+    push_switch(switches, row, u32::from(node), was, now)
 }
 
 /// Appends a change of the lane of the node `changed`, if the call in this row made the node begin or stop listing what
 /// is asked about. Appends nothing if nothing is asked about, or no node changed. `bench` is the bench after the call,
 /// and `change` how the call changed the node's online list.
-#[tactic(auto, unfolding(crate::specs::Online::turn_at, report_core::specs::Shown::rows_of))]
-pub fn note_turn<'a, B: Allocator, W: Allocator>(
+#[tactic(auto, unfolding(crate::specs::Online::switch_at, report_core::specs::Shown::rows_of))]
+pub fn note_switch<'a, B: Allocator, W: Allocator>(
     bench: &Bench<'a, B>,
-    turns: &mut Vec<Turn, &'a B>,
+    switches: &mut Vec<Switch, &'a B>,
     asked: Option<&Asked<W>>,
     row: u32,
     changed: Option<u16>,
@@ -147,7 +147,7 @@ pub fn note_turn<'a, B: Allocator, W: Allocator>(
 ) -> Result<(), Oom>
     ensures { OnOk result ((before : List Row) → change.now.left.items ≡ alone before (rows_of bench.now changed) →
         change.now.joined.items ≡ alone (rows_of bench.now changed) before →
-        turns.new.items ≡ turns.old.items ++ turn_at (option_copied asked.entry) row changed before (rows_of bench.now changed)) }
+        switches.new.items ≡ switches.old.items ++ switch_at (option_copied asked.entry) row changed before (rows_of bench.now changed)) }
 {
     let Some(asked) = asked else {
         return Ok(());
@@ -155,24 +155,24 @@ pub fn note_turn<'a, B: Allocator, W: Allocator>(
     let Some(node) = changed else {
         return Ok(());
     };
-    note_change(bench, turns, asked, row, node, change, alloc)
+    note_change(bench, switches, asked, row, node, change, alloc)
 }
 
 /// Appends a change of the lane to the path: a move to the row of the change, if the node begins listing there, and
 /// else a line down to that row.
-fn put_turn<A: Allocator>(path: &mut String<A>, nodes: u32, turn: Turn) -> Result<(), Oom>
-    ensures { OnOk result (string_bytes path.new ≡ string_bytes path.old ++ turn_path nodes turn) }
+fn put_switch<A: Allocator>(path: &mut String<A>, nodes: u32, switch: Switch) -> Result<(), Oom>
+    ensures { OnOk result (string_bytes path.new ≡ string_bytes path.old ++ switch_path nodes switch) }
 {
-    let right = across(nodes, turn.node);
-    let down = down(turn.row);
-    if turn.begins {
+    let right = across(nodes, switch.node);
+    let down = down(switch.row);
+    if switch.begins {
         return Ok(write!(path, "M{right} {down}")?);
     }
     Ok(write!(path, "V{down}")?)
 }
 
-/// Appends to the path a line down to where row `last` begins, if `listing`, that is, if the node still lists what is
-/// asked about.
+/// Appends to the path a line down to where row `last` begins. If `listing` is false, the node doesn't list what is
+/// asked about there, and this appends nothing.
 fn put_end<A: Allocator>(path: &mut String<A>, listing: bool, last: u32) -> Result<(), Oom>
     ensures { OnOk result (string_bytes path.new ≡ string_bytes path.old ++ end_path listing last) }
 {
@@ -187,20 +187,20 @@ fn put_end<A: Allocator>(path: &mut String<A>, listing: bool, last: u32) -> Resu
 /// to the row where the node stops or, if it doesn't stop, to where row `last` begins. The path may lead beyond the
 /// drawn rows; the `viewBox` of the picture cuts that off.
 pub fn bar_path<'a, B: Allocator>(
-    turns: &[Turn],
+    switches: &[Switch],
     nodes: u32,
     node: u32,
     last: u32,
     alloc: &'a B,
 ) -> Result<String<&'a B>, Oom>
-    ensures { IfOk result (λ path. string_bytes path ≡ bar_path nodes node last turns.now) }
+    ensures { IfOk result (λ path. string_bytes path ≡ bar_path nodes node last switches.now) }
 {
     let mut path = String::new(alloc);
     let mut listing = false;
-    for turn in turns {
-        if turn.node == node {
-            put_turn(&mut path, nodes, *turn)?;
-            listing = turn.begins;
+    for switch in switches {
+        if switch.node == node {
+            put_switch(&mut path, nodes, *switch)?;
+            listing = switch.begins;
         }
     }
     put_end(&mut path, listing, last)?;

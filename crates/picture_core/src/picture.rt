@@ -6,14 +6,14 @@ ghost use Rattle.svg_core.specs.Trees.{opening_text, text_of};
 ghost use Rattle.picture_core.specs.Online.{bar_path};
 ghost use Rattle.picture_core.specs.Pictures.{bar_at, bars_from, front, ground, head_height, height, lanes_from, longest_name, names_from, part, part_of, picture, range_of, size, size_of, style, text_around, view_box, width};
 ghost use Rattle.picture_core.specs.Shapes.{lane, lane_name};
-ghost use Rattle.picture_core.specs.Standings.{painted_of};
+ghost use Rattle.picture_core.specs.Shades.{painted_of};
 
 use crate::layers::{Layers, layers_of, with_length};
-use crate::online::{Asked, Turn, bar_path};
+use crate::online::{Asked, Switch, bar_path};
 use crate::plan::{across, wide};
 use crate::range::{Range, first_row, last_row};
+use crate::shade::drawn_steps;
 use crate::shapes::{put_bar, put_lane, put_lane_name};
-use crate::standing::drawn_steps;
 use bench_core::{Bench, Names, TextSet};
 use payload_core::Oom;
 use report_core::name_at;
@@ -129,13 +129,13 @@ fn put_lanes<'a, A: Allocator, N: Allocator, B: Allocator>(
 fn put_bar_at<'a, A: Allocator, B: Allocator>(
     text: &mut String<A>,
     asked: Option<&Asked<&'a B>>,
-    turns: &[Turn],
+    switches: &[Switch],
     nodes: u32,
     node: u32,
     last: u32,
     alloc: &'a B,
 ) -> Result<(), Oom>
-    ensures { OnOk result (string_bytes text.new ≡ string_bytes text.old ++ text_of (bar_at (option_copied asked.entry) nodes last turns.now node)) }
+    ensures { OnOk result (string_bytes text.new ≡ string_bytes text.old ++ text_of (bar_at (option_copied asked.entry) nodes last switches.now node)) }
 {
     let Some(asked) = asked else {
         return Ok(());
@@ -143,7 +143,7 @@ fn put_bar_at<'a, A: Allocator, B: Allocator>(
     if !asked.is_of(node) {
         return Ok(());
     }
-    let path = bar_path(turns, nodes, node, last, alloc)?;
+    let path = bar_path(switches, nodes, node, last, alloc)?;
     put_bar(text, &path)
 }
 
@@ -152,16 +152,16 @@ fn put_bars<'a, A: Allocator, N: Allocator, B: Allocator>(
     text: &mut String<A>,
     names: &Names<N>,
     asked: Option<&Asked<&'a B>>,
-    turns: &[Turn],
+    switches: &[Switch],
     last: u32,
     alloc: &'a B,
 ) -> Result<(), Oom>
     ensures { OnOk result (string_bytes text.new ≡ string_bytes text.old ++
-        text_of (bars_from (option_copied asked.entry) (length names.now) last turns.now 0 names.now)) }
+        text_of (bars_from (option_copied asked.entry) (length names.now) last switches.now 0 names.now)) }
 {
     let nodes = names.len() as u32;
     for number in 0..names.len() as u32 {
-        put_bar_at(text, asked, turns, nodes, number, last, alloc)?;
+        put_bar_at(text, asked, switches, nodes, number, last, alloc)?;
     }
     Ok(())
 }
@@ -181,7 +181,7 @@ fn view_box<'a, B: Allocator>(
     Ok(seen)
 }
 
-/// Appends the beginning of a picture of this size; `seen` is its `viewBox`.
+/// Appends the start tag of a picture of this size; `seen` is its `viewBox`.
 fn put_opening_of<A: Allocator>(
     text: &mut String<A>,
     width: u64,
@@ -215,7 +215,7 @@ fn put_opening<'a, A: Allocator, B: Allocator>(
     put_opening_of(text, width, height, seen.as_str())
 }
 
-/// Appends the beginning of a part of the picture that stands `top` units below the picture's top; `seen` is the part's
+/// Appends the start tag of an inner `svg` element of this size, `top` units below the picture's top; `seen` is its
 /// `viewBox`.
 fn put_part_of<A: Allocator>(
     text: &mut String<A>,
@@ -238,7 +238,7 @@ fn put_part_of<A: Allocator>(
     )?)
 }
 
-/// Appends the beginning of the part below the names, which shows the rows from `first` on.
+/// Appends the start tag of the inner `svg` element below the names, which shows the rows from `first` on.
 fn put_part<'a, A: Allocator, B: Allocator>(
     text: &mut String<A>,
     top: u64,
@@ -253,6 +253,7 @@ fn put_part<'a, A: Allocator, B: Allocator>(
     put_part_of(text, top, width, height, seen.as_str())
 }
 
+/// Appends the text of a layer.
 fn put_layer<A: Allocator, B: Allocator>(text: &mut String<A>, layer: &String<B>) -> Result<(), Oom>
     ensures { OnOk result (string_bytes text.new ≡ string_bytes text.old ++ string_bytes layer.now) }
 {
@@ -286,7 +287,7 @@ fn put_drawing<'a, A: Allocator, N: Allocator, B: Allocator>(
     alloc: &'a B,
 ) -> Result<(), Oom>
     ensures { OnOk result (string_bytes text.new ≡ string_bytes text.old ++
-        text_around names.now range (option_copied asked.entry) layers.now.turns.items layers.now.longest
+        text_around names.now range (option_copied asked.entry) layers.now.switches.items layers.now.longest
         (string_bytes layers.now.messages) (string_bytes layers.now.rows)) }
 {
     let top = head_height(names);
@@ -296,7 +297,7 @@ fn put_drawing<'a, A: Allocator, N: Allocator, B: Allocator>(
     put_front(text)?;
     put_names(text, names, top, alloc)?;
     put_part(text, top, range.first, width, height, alloc)?;
-    put_bars(text, names, asked, &layers.turns, range.last, alloc)?;
+    put_bars(text, names, asked, &layers.switches, range.last, alloc)?;
     put_lanes(text, names, range, alloc)?;
     put_layer(text, &layers.messages)?;
     put_layer(text, &layers.rows)?;

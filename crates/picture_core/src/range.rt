@@ -30,8 +30,8 @@ impl Range {
     }
 }
 
-/// Whether a call with this reply took a step whose number is at least `number`, or, if `beyond`, greater than
-/// `number`.
+/// Whether a call with this reply took a step whose number is greater than `number`. Unless `beyond` is set, `number`
+/// itself will do, too.
 fn is_from(beyond: bool, number: u64, reply: Reply) -> bool
     ensures { result ≡ is_from beyond number reply }
 {
@@ -47,8 +47,8 @@ fn is_from(beyond: bool, number: u64, reply: Reply) -> bool
     }
 }
 
-/// How many calls come before the first that took a step whose number is at least `number` or, if `beyond`, greater
-/// than `number`. If there is no such call, all calls are counted.
+/// How many calls come before the first one whose reply makes `is_from` true. If there is no such call, all calls are
+/// counted.
 fn calls_before<'a, B: Allocator>(history: &History<'a, B>, beyond: bool, number: u64) -> usize
     ensures is { result ≡ calls_before beyond number history.now }
     ensures few { result ≤ length history.now }

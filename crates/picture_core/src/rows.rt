@@ -9,8 +9,8 @@ ghost use Rattle.picture_core.specs.Rows.{lane_of, looks, mark_at, message_betwe
 
 use crate::kind::Kind;
 use crate::range::Range;
+use crate::shade::{Drawn, step_at};
 use crate::shapes::{put_mark, put_message, put_number_label, put_words_label};
-use crate::standing::{Drawn, step_at};
 use bench_core::{Act, Bench, Event, Journal, Reply, Step};
 use payload_core::Oom;
 use report_core::{asked_undo, node_of_step};
@@ -40,7 +40,7 @@ fn put_between<'a, A: Allocator, B: Allocator>(
     if !range.shows(sent.row, row) {
         return Ok(());
     }
-    let kind = Kind::of(taken.standing.of_message(sent.standing));
+    let kind = Kind::of(taken.shade.of_message(sent.shade));
     let from = (sent.row, u32::from(sender));
     put_message(
         text,
@@ -110,14 +110,14 @@ pub fn put_message_of<'a, A: Allocator, B: Allocator>(
     }
 }
 
-/// How a call looks: as its step's `Standing` says, if the call took a step; else `Back` if it took one back, and
+/// How a call looks: as its step's `Shade` says, if the call took a step; else `Back` if it took one back, and
 /// `Refused` if it was refused.
 #[tactic(auto, unfolding(crate::specs::Rows::looks))]
 fn looks(steps: &[Drawn], reply: Reply) -> Kind
     ensures { result ≡ looks steps.now reply }
 {
     match reply {
-        Reply::Taken(number) => Kind::of(step_at(steps, number).standing),
+        Reply::Taken(number) => Kind::of(step_at(steps, number).shade),
         Reply::Undone(_) => Kind::Back,
         Reply::Refused(_) => Kind::Refused,
     }

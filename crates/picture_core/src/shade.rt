@@ -2,7 +2,7 @@
 ghost use Rattle.std.specs.Prelude.{◌≡◌, ◌==◌, IfOk};
 ghost use Rattle.std.specs.List.{list_any};
 ghost use Rattle.journal_core.specs.Holdings.{kepts};
-ghost use Rattle.picture_core.specs.Standings.{drawn_steps, nothing_drawn, of_message, standing_of, step_at, with_reply};
+ghost use Rattle.picture_core.specs.Shades.{drawn_steps, nothing_drawn, of_message, shade_of, step_at, with_reply};
 
 use bench_core::{Bench, Journal, Reply};
 use payload_core::Oom;
@@ -10,7 +10,7 @@ use std::alloc::Allocator;
 
 /// Whether a step that was taken remains, and whether it is painted.
 #[derive(Clone, Copy, Debug, PartialEq, Eq)]
-pub enum Standing {
+pub enum Shade {
     /// The step remains, and isn't painted.
     Remains,
     /// The step remains, and is painted as a part of the future that is asked about.
@@ -24,34 +24,35 @@ pub enum Standing {
 pub struct Drawn {
     /// The row of the call that took the step.
     pub row: u32,
-    pub standing: Standing,
+    pub shade: Shade,
 }
 
 impl Drawn {
     /// What stands in for a step that was never taken.
     const NOTHING: Drawn = Drawn {
         row: 0,
-        standing: Standing::Undone,
+        shade: Shade::Undone,
     };
 }
 
-impl Standing {
-    /// The `Standing` of a message whose send is `sent` and whose delivery is `self`: taken back if the delivery is,
-    /// painted if both are, and else remaining.
-    pub fn of_message(self, sent: Standing) -> Standing
+impl Shade {
+    /// The `Shade` of a message, from that of its delivery (`self`) and that of its send (`sent`): taken back if the
+    /// delivery is, painted if both are, and else remaining.
+    pub fn of_message(self, sent: Shade) -> Shade
         ensures { result ≡ of_message self sent }
     {
         match self {
-            Standing::Undone => Standing::Undone,
-            Standing::Painted => match sent {
-                Standing::Painted => Standing::Painted,
-                Standing::Remains | Standing::Undone => Standing::Remains,
+            Shade::Undone => Shade::Undone,
+            Shade::Painted => match sent {
+                Shade::Painted => Shade::Painted,
+                Shade::Remains | Shade::Undone => Shade::Remains,
             },
-            Standing::Remains => Standing::Remains,
+            Shade::Remains => Shade::Remains,
         }
     }
 }
 
+/// Whether the step with this number is among the painted ones.
 fn is_painted(painted: &[u64], number: u64) -> bool
     ensures { result ≡ list_any (λ n. n == number) painted.now }
 {
@@ -59,21 +60,17 @@ fn is_painted(painted: &[u64], number: u64) -> bool
 }
 
 /// Whether the step with this number, which was taken, remains, and whether it is painted.
-#[tactic(auto, unfolding(crate::specs::Standings::standing_of))]
-fn standing_of<'a, B: Allocator>(
-    remaining: &Journal<'a, B>,
-    painted: &[u64],
-    number: u64,
-) -> Standing
-    ensures { result ≡ standing_of (kepts remaining.now.steps) painted.now number }
+#[tactic(auto, unfolding(crate::specs::Shades::shade_of))]
+fn shade_of<'a, B: Allocator>(remaining: &Journal<'a, B>, painted: &[u64], number: u64) -> Shade
+    ensures { result ≡ shade_of (kepts remaining.now.steps) painted.now number }
 {
     let Some(_kept) = remaining.find(number) else {
-        return Standing::Undone;
+        return Shade::Undone;
     };
     if is_painted(painted, number) {
-        Standing::Painted
+        Shade::Painted
     } else {
-        Standing::Remains
+        Shade::Remains
     }
 }
 
@@ -88,16 +85,16 @@ fn note_reply<'a, B: Allocator>(
     ensures { steps.new.items ≡ with_reply (kepts remaining.now.steps) painted.now row reply steps.old.items }
 {
     if let Reply::Taken(number) = reply {
-        let standing = standing_of(remaining, painted, number);
+        let shade = shade_of(remaining, painted, number);
         if let Some(step) = steps.get_mut(number as usize) {
-            *step = Drawn { row, standing };
+            *step = Drawn { row, shade };
         }
     }
 }
 
 /// What a picture knows of each step, at the place of the step's number; `Drawn::NOTHING` at a place without a step,
-/// such as 0.
-#[tactic(auto, unfolding(crate::specs::Standings::drawn_steps))]
+/// such as 0. `painted` has the numbers of the painted steps.
+#[tactic(auto, unfolding(crate::specs::Shades::drawn_steps))]
 pub fn drawn_steps<'a, B: Allocator>(
     bench: &Bench<'a, B>,
     painted: &[u64],

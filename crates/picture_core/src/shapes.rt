@@ -203,6 +203,7 @@ fn message_path<'a, B: Allocator>(
     path_between((start, sent), beside, above, (end, taken), alloc)
 }
 
+/// The title of a message from the step `source` to the step `number`.
 #[tactic(auto, unfolding(crate::specs::Shapes::message_title))]
 fn message_title<'a, B: Allocator>(
     source: u64,
@@ -216,6 +217,7 @@ fn message_title<'a, B: Allocator>(
     Ok(title)
 }
 
+/// The value of the attribute `class` for a message of this kind.
 fn message_class(kind: Kind) -> &'static str
     ensures { result.now ≡ message_class kind }
 {

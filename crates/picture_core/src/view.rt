@@ -30,8 +30,8 @@ pub struct View<'q> {
     /// The picture ends before the row of the first step after this one; if this is `None`, or there is no such step,
     /// with the last row.
     pub to: Option<u64>,
-    /// The lane of the node that this names, or each lane if this names none, is thick where its node lists a row of
-    /// this topic and key. If this is `None`, no lane is thick.
+    /// A lane is thick where its node lists a row of this topic and key: the lane of the named node, or each lane if no
+    /// node is named. If this is `None`, no lane is thick.
     pub of: Option<Presence<'q>>,
 }
 

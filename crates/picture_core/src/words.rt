@@ -1,4 +1,4 @@
-//! The words of a row, and the title of its mark.
+//! The words that stand beside a call in the picture, and the title of the mark that is drawn for it.
 ghost use Rattle.std.specs.Prelude.{◌≡◌, ◌++◌, IfOk, OnOk, string_bytes};
 ghost use Rattle.report_core.specs.ActRows.{acted_text};
 ghost use Rattle.picture_core.specs.Words.{reply_words, row_words, title_told, words_told};
@@ -11,7 +11,7 @@ use std::alloc::Allocator;
 use transcript_core::put_call;
 
 /// Appends the words for a reply after two spaces: `undone N` with the number of the step, or `no` and the fault. For a
-/// step that was taken it appends nothing, as the step's number stands in the row, left of the lanes.
+/// step that was taken it appends nothing, as the step's number stands left of the lanes.
 fn put_reply_words<A: Allocator>(text: &mut String<A>, reply: Reply) -> Result<(), Oom>
     ensures { OnOk result (string_bytes text.new ≡ string_bytes text.old ++ reply_words reply) }
 {
@@ -22,8 +22,8 @@ fn put_reply_words<A: Allocator>(text: &mut String<A>, reply: Reply) -> Result<(
     }
 }
 
-/// Appends the words for rows: for no row nothing; else two spaces, `sign`, and the topic and key if there is one row,
-/// or how many rows there are if there are several.
+/// Appends the words for rows of an online list: nothing for none; for one row two spaces, `sign`, its topic and its
+/// key; for several two spaces, `sign`, and how many they are.
 fn put_row_words<A: Allocator, R: Allocator>(
     text: &mut String<A>,
     sign: &str,

@@ -3,7 +3,7 @@ use Rattle.std.specs.Prelude.{option_copied}
 use Rattle.std.proofs.lemmas.Result.{on_ok_weaker}
 use Rattle.bench_core.specs.Acts.{plain_act}
 use Rattle.bench_core.specs.Machine.{Event}
-use Rattle.picture_core.proofs.Changed.{told_longest, told_row, told_turn}
+use Rattle.picture_core.proofs.Changed.{told_longest, told_row, told_switch}
 use Rattle.picture_core.proofs.layers.put_event.Goals as goal
 
 pub returns-clause-rows : goal.returns-clause-rows
@@ -29,13 +29,13 @@ returns-clause-longest g c =
     c.put_told-told.new.layers.longest)
     c.put_told-told.ensures.longest
 
-pub returns-clause-turns : goal.returns-clause-turns
-returns-clause-turns g c =
+pub returns-clause-switches : goal.returns-clause-switches
+returns-clause-switches g c =
     let seen : Event = record { actor = c.event.inside.actor; act = plain_act c.event.inside.act; reply = c.event.inside.reply } in
     let acted = c.in_ok-acted.acted in
     let is = c.in_ok-acted.ensures in
     on_ok_weaker c.put_told-told.result
-    (told_turn c.args.asked.now c.ask.new.bench seen c.args.event.now c.event.view_is acted.reply acted.change.left.items acted.change.joined.items
+    (told_switch c.args.asked.now c.ask.new.bench seen c.args.event.now c.event.view_is acted.reply acted.change.left.items acted.change.joined.items
     is.bench is.reply is.left is.joined c.node_undone-undone.result c.node_changed-changed.result c.node_undone-undone.ensures
-    c.node_changed-changed.ensures (option_copied c.args.of) c.args.row c.args.layers.now.turns.items c.put_told-told.new.layers.turns.items)
-    c.put_told-told.ensures.turns
+    c.node_changed-changed.ensures (option_copied c.args.of) c.args.row c.args.layers.now.switches.items c.put_told-told.new.layers.switches.items)
+    c.put_told-told.ensures.switches

@@ -4,7 +4,7 @@ use Rattle.bench_core.specs.NameList.{Texts}
 use Rattle.svg_core.specs.Trees.{text_of}
 use Rattle.picture_core.specs.Rows.{message_of, row_of}
 use Rattle.picture_core.proofs.Changed.{names_stay}
-use Rattle.picture_core.proofs.Walks.{longest_all, longest_more, messages_all, messages_more, rows_all, rows_more, turns_all, turns_more}
+use Rattle.picture_core.proofs.Walks.{longest_all, longest_more, messages_all, messages_more, rows_all, rows_more, switches_all, switches_more}
 use Rattle.picture_core.proofs.layers.put_events.Goals as goal
 
 pub loop-place-preserved : goal.loop-place-preserved
@@ -31,7 +31,7 @@ loop-place-preserved g c =
       rows = rows_more nodes steps range consoles m next events i e _ (string_bytes old.rows) (string_bytes new.rows) inside was.rows at is.asked
           (is.rows ∙ ap (λ (names : Texts). string_bytes old.rows ++ text_of (row_of (length names) steps range consoles m i e)) was.names);
       longest = longest_more range consoles m next events i e _ old.longest new.longest inside was.longest at is.asked is.longest;
-      turns = turns_more of m next events i e _ old.turns.items new.turns.items inside was.turns at is.asked is.turns;
+      switches = switches_more of m next events i e _ old.switches.items new.switches.items inside was.switches at is.asked is.switches;
       names = names_stay m next e.actor e.act is.asked ∙ was.names;
     }
 
@@ -44,5 +44,5 @@ returns-clause-rows g c = rows_all _ _ _ _ c.loop-place.asked c.args.history.now
 pub returns-clause-longest : goal.returns-clause-longest
 returns-clause-longest g c = longest_all _ _ c.loop-place.asked c.args.history.now c.loop-place.place _ _ (omega arith) c.loop-place.invariant.longest
 
-pub returns-clause-turns : goal.returns-clause-turns
-returns-clause-turns g c = turns_all _ c.loop-place.asked c.args.history.now c.loop-place.place _ _ (omega arith) c.loop-place.invariant.turns
+pub returns-clause-switches : goal.returns-clause-switches
+returns-clause-switches g c = switches_all _ c.loop-place.asked c.args.history.now c.loop-place.place _ _ (omega arith) c.loop-place.invariant.switches

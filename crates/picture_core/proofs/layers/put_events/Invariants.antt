@@ -1,7 +1,7 @@
 use Rattle.std.proofs.Common.{◌≡◌, ◌++◌, drop, length, string_bytes}
 use Rattle.std.specs.Prelude.{option_copied}
 use Rattle.svg_core.specs.Trees.{text_of}
-use Rattle.picture_core.specs.Pictures.{turns_from}
+use Rattle.picture_core.specs.Pictures.{switches_from}
 use Rattle.picture_core.specs.Rows.{longest_from, messages_from, rows_from}
 use Rattle.picture_core.proofs.layers.put_events.Given as goal
 
@@ -14,7 +14,7 @@ invariant-loop-place g l = record {
       ≡ string_bytes l.fn.layers.rows ++ text_of (rows_from (length l.fn.asked.names) l.steps l.range l.consoles l.fn.asked 0 l.history);
   longest : longest_from l.range l.consoles l.asked l.place (drop l.place l.history) l.layers.longest
       ≡ longest_from l.range l.consoles l.fn.asked 0 l.history l.fn.layers.longest;
-  turns : turns_from (option_copied l.of) l.asked l.place (drop l.place l.history) l.layers.turns.items
-      ≡ turns_from (option_copied l.of) l.fn.asked 0 l.history l.fn.layers.turns.items;
+  switches : switches_from (option_copied l.of) l.asked l.place (drop l.place l.history) l.layers.switches.items
+      ≡ switches_from (option_copied l.of) l.fn.asked 0 l.history l.fn.layers.switches.items;
   names : l.asked.names ≡ l.fn.asked.names;
 }

@@ -3,8 +3,8 @@ use Rattle.std.proofs.lemmas.Result.{on_ok_weaker}
 use Rattle.std.specs.List.{list_any}
 use Rattle.diff_core.specs.Rows.{Row, is_among}
 use Rattle.report_core.specs.Shown.{rows_at}
-use Rattle.picture_core.specs.Online.{is_asked, lists, turn_if}
-use Rattle.picture_core.proofs.Turns.{turned, unturned, was_beside, was_left}
+use Rattle.picture_core.specs.Online.{is_asked, lists, switch_if}
+use Rattle.picture_core.proofs.Switches.{switched, unswitched, was_beside, was_left}
 use Rattle.picture_core.proofs.online.note_change.Goals as goal
 use Rattle.picture_core.proofs.online.note_change.Goals.{then-left, else-left}
 
@@ -16,7 +16,7 @@ returns-then-not-lists g c =
     let none_joined : lists asked c.args.change.now.joined.items ≡ false =
     ap (lists asked) (sym c.deref-then-not-left.ensures.value) ∙ sym c.lists.ensures ∙ c.if-not-lists.true in
     λ before left_is joined_is.
-    unturned asked c.args.row c.args.node c.args.turns.now.items before (rows_at c.args.bench.now c.args.node) c.args.change.now.left.items
+    unswitched asked c.args.row c.args.node c.args.switches.now.items before (rows_at c.args.bench.now c.args.node) c.args.change.now.left.items
     c.args.change.now.joined.items none_left none_joined left_is joined_is
 
 pub returns : goal.returns
@@ -39,9 +39,9 @@ returns g c =
           ∙ ap (list_any (λ (row : Row). is_asked asked row && not (is_among joined row))) w.deref-else-left.ensures.value
           ∙ ap (list_any (λ (row : Row). is_asked asked row && not (is_among joined row))) c.in_ok-rows.ensures)
     ] in
-    on_ok_weaker c.push_turn.result
+    on_ok_weaker c.push_switch.result
     (λ noted before left_is joined_is.
-    turned asked c.args.row c.args.node c.args.turns.now.items c.push_turn.new.turns.items before rows left joined c.if-left.was
+    switched asked c.args.row c.args.node c.args.switches.now.items c.push_switch.new.switches.items before rows left joined c.if-left.was
     c.lists-now.result was_is now_is
-    (noted ∙ ap (λ n. c.args.turns.now.items ++ turn_if c.args.row n c.if-left.was c.lists-now.result) c.from.ensures) left_is joined_is)
-    c.push_turn.ensures
+    (noted ∙ ap (λ n. c.args.switches.now.items ++ switch_if c.args.row n c.if-left.was c.lists-now.result) c.from.ensures) left_is joined_is)
+    c.push_switch.ensures

@@ -3,8 +3,8 @@ use Rattle.std.specs.Prelude.{List, option_copied}
 use Rattle.bench_core.specs.NameList.{Texts}
 use Rattle.svg_core.specs.Trees.{text_of}
 use Rattle.picture_core.specs.Pictures.{messages, rows, text_around}
-use Rattle.picture_core.specs.Standings.{drawn_steps}
-use Rattle.picture_core.specs.declared.standing.Drawn.{Drawn}
+use Rattle.picture_core.specs.Shades.{drawn_steps}
+use Rattle.picture_core.specs.declared.shade.Drawn.{Drawn}
 use Rattle.picture_core.proofs.Whole.{picture_text}
 use Rattle.picture_core.proofs.picture.picture.Goals as goal
 
@@ -21,9 +21,9 @@ returns g c =
     let over = string_bytes layers.messages in
     let rowed = string_bytes layers.rows in
     c.in_ok-put_drawing.ensures
-    ∙ ap (λ t. t ++ text_around c.names.result.now range asked layers.turns.items layers.longest over rowed) c.new-text.ensures.bytes
-    ∙ ap (λ (names : Texts). text_around names range asked layers.turns.items layers.longest over rowed) c.names.ensures
+    ∙ ap (λ t. t ++ text_around c.names.result.now range asked layers.switches.items layers.longest over rowed) c.new-text.ensures.bytes
+    ∙ ap (λ (names : Texts). text_around names range asked layers.switches.items layers.longest over rowed) c.names.ensures
     ∙ sym
-    (picture_text m consoles painted range asked layers.turns.items layers.longest over rowed is.turns is.longest
+    (picture_text m consoles painted range asked layers.switches.items layers.longest over rowed is.switches is.longest
     (is.messages ∙ ap (λ (steps : List Drawn). text_of (messages m steps range)) steps_are)
     (is.rows ∙ ap (λ (steps : List Drawn). text_of (rows m steps range consoles)) steps_are))

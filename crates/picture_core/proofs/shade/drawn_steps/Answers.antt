@@ -2,10 +2,10 @@ use Rattle.std.proofs.Common.{◌≡◌, ◌∙◌, ◌<◌, List, Some, ap, ari
 use Rattle.std.specs.Prelude.{slice_get}
 use Rattle.bench_core.specs.Machine.{Event}
 use Rattle.journal_core.specs.Journals.{Kept}
-use Rattle.picture_core.specs.Standings.{drawn_steps, with_reply}
+use Rattle.picture_core.specs.Shades.{drawn_steps, with_reply}
 use Rattle.picture_core.proofs.Counts.{no_gap, noted_all, noted_more}
-use Rattle.picture_core.proofs.standing.drawn_steps.Goals as goal
-use Rattle.picture_core.proofs.standing.drawn_steps.Goals.{in-Some, in_default}
+use Rattle.picture_core.proofs.shade.drawn_steps.Goals as goal
+use Rattle.picture_core.proofs.shade.drawn_steps.Goals.{in-Some, in_default}
 
 pub loop-place-preserved : goal.loop-place-preserved
 loop-place-preserved g c =

@@ -1,6 +1,6 @@
 use Rattle.std.proofs.Common.{◌≡◌, drop}
-use Rattle.picture_core.specs.Standings.{drawn_steps, noted_from}
-use Rattle.picture_core.proofs.standing.drawn_steps.Given as goal
+use Rattle.picture_core.specs.Shades.{drawn_steps, noted_from}
+use Rattle.picture_core.proofs.shade.drawn_steps.Given as goal
 
 -- the calls that are left, noted from here on
 abbrev pub invariant-loop-place : goal.invariant-loop-place
