@@ -87,8 +87,8 @@ fn ask<'a, B: Allocator>(
 }
 
 /// Plays an event, and appends what the event tells besides its call. An event that lists rows tells the rows that only
-/// the bench's list has, and those that only its own has. An event whose step can't be asked (see `asked`) tells that
-/// it is unsent. Other events tell nothing.
+/// the bench's list has, and those that only the event's list has. An event whose step can't be asked (see `asked`)
+/// tells that it is unsent. Other events tell nothing.
 #[tactic(auto, unfolding(import_report::specs::Events::after_event))]
 fn put_told<'a, B: Allocator>(
     bench: &mut Bench<'a, B>,
@@ -134,7 +134,8 @@ fn put_entry<'a, B: Allocator>(
     Ok(text.push_str("}")?)
 }
 
-/// Plays the events in this order, and appends the entry of each. `order` has their places in `notes`.
+/// Plays the events in this order, and appends the entry of each. `lines` are those of the logs, `order` has the places
+/// of the events in `notes`, and `numbers` is as in `play`.
 pub(crate) fn put_entries<'a, B: Allocator>(
     bench: &mut Bench<'a, B>,
     text: &mut String<&'a B>,

@@ -85,7 +85,7 @@ fn played<'a, B: Allocator>(
         Ok(()) => Ok((bench, entries)),
         Err(oom) => {
             // form: drop before exit
-            drop(bench);
+            bench.discard();
             Err(oom)
         }
     }
@@ -113,7 +113,7 @@ fn shown_of<'a, B: Allocator>(
         Ok(keys) => Ok(Shown { bench, keys }),
         Err(oom) => {
             // form: drop before exit
-            drop(bench);
+            bench.discard();
             Err(oom)
         }
     }

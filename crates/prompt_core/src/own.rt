@@ -107,8 +107,8 @@ fn put_explanation<'a, B: Allocator>(
     }
 }
 
-/// Like `put_explanation`, for the question that `words`, those after `:explain`, ask; `NoNodes` before the nodes are
-/// named, `WrongCount` unless there are three words.
+/// Like `put_explanation`, for the question that the words after `:explain` (`words`) ask; `NoNodes` before the nodes
+/// are named, `WrongCount` unless there are three words.
 #[tactic(auto, unfolding(crate::specs::Answers::explained))]
 fn put_explained<'a, B: Allocator>(
     prompt: &Prompt<'a, B>,
@@ -151,8 +151,8 @@ fn put_whatif<'a, B: Allocator>(
     }
 }
 
-/// Like `put_whatif`, for the question that `words`, those after `:whatif`, ask; `NoNodes` before the nodes are named,
-/// `WrongCount` unless there are three words.
+/// Like `put_whatif`, for the question that the words after `:whatif` (`words`) ask; `NoNodes` before the nodes are
+/// named, `WrongCount` unless there are three words.
 #[tactic(auto, unfolding(crate::specs::Answers::changes))]
 fn put_changes<'a, B: Allocator>(
     prompt: &Prompt<'a, B>,

@@ -95,8 +95,8 @@ fn put_message<'a, A: Allocator, B: Allocator, N: Allocator>(
     put_entries(message.entries(), text, names)
 }
 
-/// Appends all messages of the node `found`, whose number is `node`, each as `put_message` does with the step that sent
-/// the message.
+/// Appends all messages of the node `found`, whose number is `node`, each with the step that sent it (see
+/// `put_message`).
 fn put_messages<'a, A: Allocator, B: Allocator, N: Allocator>(
     journal: &Journal<'a, B>,
     text: &mut String<A>,

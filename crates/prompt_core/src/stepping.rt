@@ -103,12 +103,12 @@ pub fn step_counted<B: Allocator, R: Read, W: Write, E: Write, L: Ledger>(
         steps,
     );
     // form: drop before exit
-    drop(prompt);
+    prompt.discard();
     ended
 }
 
-/// Like `step_counted`, but shows no signs, makes the count itself, from `blank`, and drops the count. `help` is a
-/// reference to a reference, since beside a `Blank` a reference must be to a type that is `Sized`.
+/// Like `step_counted`, but shows no signs, makes the count itself, with the ledger of `blank`, and drops the count.
+/// `help` is a reference to a reference, since beside a `Blank` a reference must be to a type that is `Sized`.
 fn step_from<B: Allocator, R: Read, W: Write, L: Ledger>(
     heap: Global,
     alloc: &B,
