@@ -89,8 +89,8 @@ impl Case {
         whole.get(..self.front).unwrap_or(whole)
     }
 
-    /// The case's own input, to which the caller can append. The first call after `begin` takes the input of the case
-    /// before out of it.
+    /// The case's own input, to which the caller can append. The first call after `begin` clears the input of the case
+    /// before.
     pub fn own_input(&mut self) -> &mut Vec<u8> {
         if !self.is_own {
             self.is_own = true;

@@ -117,7 +117,8 @@ fn run_files<T: Threads + Wait + Sync>(rt: &HostRuntime, threads: &T) -> io::Res
     Ok(counts.differing == 0)
 }
 
-/// Plays the script in this file and prints its report. Says whether the whole report was printed; a fault isn't told.
+/// Plays the script in this file and prints its report. Says whether the whole report was printed, but not which fault
+/// came in the way.
 fn prints(rt: &HostRuntime, path: &str) -> io::Result<bool> {
     let script = fs::read(rt, path)?;
     let mut reader = FakeReader::ending(&script);

@@ -29,7 +29,7 @@ fn put_bytes(bytes: &mut Vec<u8>, spelled: &str) -> io::Result<()> {
     Ok(())
 }
 
-/// Appends the text in `spelled`, which is `N TEXT`, N times, each time with `end` behind it.
+/// Appends a text and then `end`, N times. `spelled` is `N TEXT`: the number, a space, and the text.
 fn put_repeated(bytes: &mut Vec<u8>, spelled: &str, end: &str) -> io::Result<()> {
     let Some((times, text)) = spelled.split_once(' ') else {
         return Err(no_form());

@@ -69,7 +69,8 @@ fn play<'a>(
     }
 }
 
-/// Takes steps of a node that isn't there, and of a name that no node has. The cluster must have two nodes.
+/// Asks for a step of a node that isn't there, and for a step that names such a node: both must be refused. The cluster
+/// must have two nodes.
 fn knows_two<'a>(cluster: &mut Cluster<'a, Heap>, rt: &impl Abort) {
     let no_node = cluster.step(2, &Step::Broadcast).err();
     let no_name = cluster.step(0, &Step::Up { name: 2 }).err();

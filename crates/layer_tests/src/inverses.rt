@@ -168,7 +168,7 @@ fn is_inverse<A: Allocator>(inverse: &Inverse<A>, told: Told) -> bool {
     }
 }
 
-/// The last node sends a join, the leave of its process, and a request. Then come the steps of the first node: its own
+/// The last node sends a join, the leave of what joined, and a request. Then come the steps of the first node: its own
 /// joins, updates, leaves and sends, on entries that were sent and on entries that weren't; and its steps about the
 /// last node and the last node's messages.
 const SCRIPT: &str = "nodes a b c d e f g h i j k l m n o p q r s t u v w x y z aa ab ac ad ae af

@@ -29,8 +29,8 @@ fn runs_in_order<'a, B: Allocator>(bench: &Bench<'a, B>)
     headline_law();
 }
 
-/// Gives the journal of the remaining steps, whose inverses take each node back, step by step, through the states that
-/// it had in their run, to its opening.
+/// Gives the journal of the remaining steps. Its inverses take each node back to the opening, step by step, through the
+/// states that the node had in the run of these steps.
 fn leads_back<'x, 'a, B: Allocator>(bench: &'x Bench<'a, B>) -> &'x Journal<'a, B>
     ensures { (c : Cluster) → cluster_of bench.now ≡ Ok c → OwnChains (node_limits bench.now.limits) (length bench.now.names) c result.now.steps }
 {

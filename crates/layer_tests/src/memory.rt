@@ -135,9 +135,9 @@ fn ask_refused<'a>(
 /// A script that has the nodes of `SCRIPT`, and no act.
 const NODES: &str = "nodes a b";
 
-/// Makes the calls, those of `SCRIPT`, on two new benches like `ask_refused`, and says whether a call was refused
-/// memory. At the end the meter must have counted the 34 steps that were taken; undos, backs and refusals count
-/// nothing.
+/// Opens two equal benches, makes the calls of `SCRIPT` on them with `ask_refused`, and says whether a call was refused
+/// memory. At the end the meter must have counted the 34 steps that were taken; it doesn't count undos, backs and
+/// refusals.
 fn is_met<'a>(calls: &Calls<'a>, refusal: Refusal, heap: &'a Heap, rt: &impl Abort) -> bool {
     let mut pair = played_twice(NODES, Limits::usual(), heap, rt);
     let is_met = ask_refused(&mut pair, calls, refusal, heap, rt);
@@ -183,9 +183,10 @@ const HELD: Fault = Fault::HasConsequence {
     held_by: 2,
 };
 
-/// The cases in turn: with one place free, which is too few, steps; with no place free, a step, undos of numbers that
-/// were never given, a back of a node without steps, an undo of a step with a consequence, an undo that was made
-/// already, and a back after an undo. The last case has a limit of 1 on acts, so two places are never free.
+/// The cases in turn. A step needs two free places. In the first case one place is free, and the acts are steps. Then
+/// none is free, and the acts are a step, undos of numbers that were never given, a back of a node without steps, an
+/// undo of a step with a consequence, an undo that was made already, and a back after an undo. The last case has a
+/// limit of 1 on acts, so two places are never free.
 const FULL: &[Full] = &[
     Full {
         limits: [3, 10, 10, 10],

@@ -46,8 +46,8 @@ a leaveall 2
     ),
 ];
 
-/// Asks for the data of the script's page with request `refused` for memory refused. Says whether that gives `wanted`,
-/// or gives nothing because there was such a request.
+/// Asks for the data of the script's page, while the heap refuses one request for memory: the one with the number
+/// `refused`. Says whether that gives `wanted`, or gives nothing because that request was made.
 fn has_data<'a>(script: &str, wanted: &str, refused: u64, heap: &'a Heap, rt: &impl Abort) -> bool {
     let script = parse_script(heap, script.as_bytes()).expect(rt, script);
     let played = run_script(&script, heap, Limits::usual()).expect(rt, "a bench");

@@ -380,7 +380,8 @@ fn pushes<'a>(
     answer
 }
 
-/// Pushes three messages into an empty outbox for two: the first without memory, then again, and one too many.
+/// Fills an empty outbox for two messages: the first is refused memory, then gets room, and so does the second; a third
+/// is one too many.
 fn is_filled<'a>(outbox: &mut Outbox<'a, Heap>, heap: &'a Heap, rt: &impl Abort) {
     let refused = pushes(outbox, 1, false, heap, rt);
     holds!(rt, refused == Err(OutboxFault::OutOfMemory));
