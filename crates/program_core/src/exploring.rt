@@ -40,16 +40,16 @@ pub fn asked_of<'w>(
 }
 
 /// The outcomes of what the network could have done; or, given the number of an `outcome`, a run that leads to it, as a
-/// script.
+/// script. Tells `watch` how far it has come.
 pub fn tell_explored<'a, B: Allocator, W: Watch<Walked>>(
-    bench: &Bench<'a, B>,
+    bench: &mut Bench<'a, B>,
     alloc: &'a B,
     question: Question<'_>,
     outcome: Option<u64>,
     watch: &mut W,
 ) -> Result<String<&'a B>, ReportFault>
-    ensures told { IfOk result (λ text. TellsExplored bench.now question.entry outcome (string_bytes text)) }
-    ensures refused { IfErr result (RefusesExplored bench.now question.entry outcome) }
+    ensures told { IfOk result (λ text. TellsExplored bench.old question.entry outcome (string_bytes text)) }
+    ensures refused { IfErr result (RefusesExplored bench.old question.entry outcome) }
     ensures watched { Watched W.told watch.old watch.new }
 {
     match outcome {

@@ -1,4 +1,4 @@
-//! `Fault`: why the program ends early, its status and its line.
+//! `Fault`: why the program ends with another status than 0, which status that is, and what it prints of it.
 ghost use Rattle.std.specs.Prelude.{◌≡◌};
 ghost use Rattle.program_core.specs.Program.{fault_status};
 
@@ -30,8 +30,8 @@ pub enum Refused {
     },
 }
 
-/// Why the program ends early. The fault's text stands on standard error behind `presence_bench: `; for `Differs`
-/// nothing is printed there.
+/// Why the program ends with another status than 0, once it has read its words. It prints the fault's text on standard
+/// error, behind `presence_bench: `; for `Differs` it prints nothing there.
 #[derive(Clone, Copy, Debug, PartialEq, Eq, Error)]
 pub enum Fault {
     /// The first fault of a script. It is never `OutOfMemory`.

@@ -1,6 +1,6 @@
 //! What is printed of the events of logs: a script, a session, a page, or where the bench and the real nodes part.
-ghost use Rattle.std.specs.Prelude.{◌≡◌, ◌≢◌, ◌⊎◌, ◌++◌, Err, IfErr, IfOk, OnOk, true, false, string_bytes};
-ghost use Rattle.std.specs.Io.KnownBytes.{IsAtEnd};
+ghost use Rattle.std.specs.Prelude.{◌≡◌, ◌≢◌, ◌⊎◌, ◌++◌, ℕ, Err, IfErr, IfOk, OnOk, true, false, string_bytes, take};
+ghost use Rattle.std.specs.Io.KnownBytes.{Appends, IsAtEnd};
 ghost use Rattle.stream_core.specs.Inputs.{IsWhole};
 ghost use Rattle.command_line.specs.declared.chosen.Form.TheVariants as forms;
 ghost use Rattle.command_line.specs.declared.chosen.Subcommand.TheVariants as subcommands;
@@ -10,7 +10,6 @@ ghost use Rattle.program_core.specs.Program.{EndsAt, FailsAs, IsEarly, IsUnwritt
 
 use crate::aside::Aside;
 use crate::fault::Fault;
-use crate::lost::Lost;
 use crate::pages::page_with;
 use crate::printing::print;
 use crate::text::{Text, bytes_of};
@@ -18,10 +17,10 @@ use crate::texts::{LONGEST_SESSION, session_line};
 use bench_core::{Bench, Limits};
 use command_line::Form;
 use import_core::{FaultKind, ImportFault};
-use import_page::import_shown;
+use import_page::{Shown, import_shown};
 use import_report::{Checked, Scripted, import_bench, import_check, import_script};
 use payload_core::Oom;
-use script_core::{InputFault, Steps, read_all};
+use script_core::{InputFault, Lost, Steps, read_all, write_noted};
 use std::alloc::{Allocator, Global};
 use std::io::{Read, Write};
 use std::sync::ledger::Ledger;
@@ -66,7 +65,7 @@ fn put_left<A: Allocator>(text: &mut String<A>, left_out: &[u64]) -> Result<(), 
     Ok(())
 }
 
-/// If `full`, appends a line that says that the history is full.
+/// Appends a line that says that the history is full; nothing if `full` is false.
 #[tactic(auto, unfolding(crate::specs::Imported::full_line))]
 fn put_full<A: Allocator>(text: &mut String<A>, full: bool) -> Result<(), Oom>
     ensures { OnOk result (string_bytes text.new ≡ string_bytes text.old ++ full_line full) }
@@ -77,8 +76,20 @@ fn put_full<A: Allocator>(text: &mut String<A>, full: bool) -> Result<(), Oom>
     Ok(text.push_str("presence_bench: the history is full: later steps are not in it\n")?)
 }
 
-/// Writes to `errors` a line for each line that was left out, and one more if the history is full (`full`). A failed
-/// write isn't a fault, but is noted in `lost`.
+/// Writes the bytes to `errors`, as far as they can be written, and notes a failed write in `lost`.
+fn tell<E: Write>(errors: &mut E, bytes: &[u8], lost: &mut Lost)
+    ensures all { lost.new ≡ false → Appends (E.contents errors.old) (E.contents errors.new) bytes.now }
+    ensures first { (count : ℕ) × Appends (E.contents errors.old) (E.contents errors.new) (take count bytes.now) }
+{
+    // form: each arm is a case of the proof
+    match write_noted(errors, bytes, lost) {
+        Ok(()) => {}
+        Err(_unwritten) => {}
+    }
+}
+
+/// Writes to `errors` a line for each number in `left_out`, and one more if the history is full (`full`). A failed
+/// write isn't a fault; `lost` notes it.
 fn tell_missing<A: Allocator, E: Write>(
     alloc: A,
     errors: &mut E,
@@ -92,7 +103,7 @@ fn tell_missing<A: Allocator, E: Write>(
     let mut text = String::new(alloc);
     put_left(&mut text, left_out)?;
     put_full(&mut text, full)?;
-    lost.tell(errors, text.as_bytes());
+    tell(errors, text.as_bytes(), lost);
     Ok(())
 }
 
@@ -119,8 +130,8 @@ pub struct Made<A: Allocator> {
 
 /// Whether the bench has fewer than two free places, so that it can't take one more step: a step needs a place for its
 /// call and one for itself.
-fn is_full<'a, B: Allocator>(bench: &Bench<'a, B>) -> bool
-    ensures { result ≡ is_full bench.now }
+fn is_full<'a, B: Allocator>(bench: &mut Bench<'a, B>) -> bool
+    ensures { result ≡ is_full bench.old }
 {
     let recorded = bench.history().len() as u64;
     let remaining = bench.remaining().len() as u64;
@@ -133,7 +144,7 @@ fn is_full<'a, B: Allocator>(bench: &Bench<'a, B>) -> bool
         < 2
 }
 
-/// The script of the events; if `lines`, with comments that tell the events' line numbers in the logs.
+/// The script of the events; if `lines` is true, with comments that tell the events' line numbers in the logs.
 fn make_script<'a, B: Allocator>(
     heap: Global,
     alloc: &'a B,
@@ -154,6 +165,7 @@ fn make_script<'a, B: Allocator>(
     })
 }
 
+/// The text of `scripted`, whose bench is dropped.
 fn text_of<'a, B: Allocator>(scripted: Scripted<'a, B>) -> Vec<u8, &'a B>
     ensures { result.items ≡ string_bytes scripted.entry.text }
 {
@@ -173,11 +185,11 @@ fn make_session<'a, B: Allocator>(
     ensures refused { IfErr result (IsUnmade false lines lenient forms.Session limits input.now) }
 {
     // form: the parameter `lines` is for the contract alone
-    let (bench, left_out) = import_bench(heap, alloc, limits, lenient, input)?;
-    let text = session_line(heap, &bench);
-    let full = is_full(&bench);
+    let (mut bench, left_out) = import_bench(heap, alloc, limits, lenient, input)?;
+    let text = session_line(heap, &mut bench);
+    let full = is_full(&mut bench);
     // form: drop before exit
-    drop(bench);
+    bench.discard();
     Ok(Made {
         text: Text::Heap(text?),
         differs: false,
@@ -186,7 +198,7 @@ fn make_session<'a, B: Allocator>(
     })
 }
 
-/// The page of the bench that the events leave, with what else the logs tell.
+/// The page of the bench that the events leave, with what the logs tell besides the bench's calls.
 fn make_page<'a, B: Allocator>(
     heap: Global,
     alloc: &'a B,
@@ -200,10 +212,12 @@ fn make_page<'a, B: Allocator>(
 {
     // form: the parameter `lines` is for the contract alone
     let (shown, left_out) = import_shown(heap, alloc, limits, lenient, input)?;
-    let page = page_with(&shown.bench, alloc, shown.keys.as_str());
-    let full = is_full(&shown.bench);
+    let Shown { mut bench, keys } = shown;
+    let page = page_with(&mut bench, alloc, keys.as_str());
+    let full = is_full(&mut bench);
     // form: drop before exit
-    drop(shown);
+    bench.discard();
+    drop(keys);
     Ok(Made {
         text: Text::Own(page?),
         differs: false,

@@ -31,14 +31,26 @@ pub struct Run<'a, B: Allocator> {
     pub consoles: TextSet<&'a B>,
 }
 
+/// Names that no node has, for the consoles of a bench.
+pub(crate) fn consoles_of<'a, B: Allocator>(
+    bench: &mut Bench<'a, B>,
+    alloc: &'a B,
+) -> Result<TextSet<&'a B>, Oom>
+    ensures consoles { IfOk result (λ consoles. consoles ≡ free_consoles bench.old) }
+    ensures bench { bench.new ≡ bench.old }
+{
+    // form: mutable, as the owner lends it so
+    free_consoles(bench, alloc)
+}
+
 /// The run of a bench whose consoles have no names: the consoles get names that no node has.
-fn unnamed_run<'a, B: Allocator>(alloc: &'a B, bench: Bench<'a, B>) -> Result<Run<'a, B>, Oom>
+fn unnamed_run<'a, B: Allocator>(alloc: &'a B, mut bench: Bench<'a, B>) -> Result<Run<'a, B>, Oom>
     ensures bench { IfOk result (λ run. run.bench ≡ bench.entry) }
     ensures consoles { IfOk result (λ run. run.consoles ≡ free_consoles bench.entry) }
 {
-    let Ok(consoles) = free_consoles(&bench, alloc) else {
+    let Ok(consoles) = consoles_of(&mut bench, alloc) else {
         // form: drop before exit
-        drop(bench);
+        bench.discard();
         return Err(Oom);
     };
     Ok(Run { bench, consoles })

@@ -38,8 +38,8 @@ fn page_around<'a, B: Allocator>(
 }
 
 /// The page of a run, without further keys in the page's data.
-fn page_of<'a, B: Allocator>(run: &Run<'a, B>, alloc: &'a B) -> Result<Vec<u8, &'a B>, Oom>
-    ensures { IfOk result (λ page. page.items ≡ page_of run.now.bench run.now.consoles) }
+fn page_of<'a, B: Allocator>(run: &mut Run<'a, B>, alloc: &'a B) -> Result<Vec<u8, &'a B>, Oom>
+    ensures { IfOk result (λ page. page.items ≡ page_of run.old.bench run.old.consoles) }
 {
     let told = page_data(&run.bench, alloc, &run.consoles)?;
     page_around(&run.bench, alloc, &run.consoles, told.as_str())
@@ -47,18 +47,20 @@ fn page_of<'a, B: Allocator>(run: &Run<'a, B>, alloc: &'a B) -> Result<Vec<u8, &
 
 /// The page of a run without consoles. Its data has further `keys`, each with a comma before it.
 pub(crate) fn page_with<'a, B: Allocator>(
-    bench: &Bench<'a, B>,
+    bench: &mut Bench<'a, B>,
     alloc: &'a B,
     keys: &str,
 ) -> Result<Vec<u8, &'a B>, Oom>
-    ensures { IfOk result (λ page. page.items ≡ page_with bench.now keys.now) }
+    ensures page { IfOk result (λ page. page.items ≡ page_with bench.old keys.now) }
+    ensures bench { bench.new ≡ bench.old }
 {
     let consoles = TextSet::new(alloc);
     let told = page_data_with(bench, alloc, &consoles, keys)?;
     page_around(bench, alloc, &consoles, told.as_str())
 }
 
-/// Reads a run from the input, and prints its page.
+/// Reads a run from the input, and prints its page. If the input is refused, `aside` gets the hint, if there is one.
+/// `steps` counts the calls of `read`.
 pub fn page_run<B: Allocator, R: Read, W: Write, L: Ledger>(
     heap: Global,
     alloc: &B,
@@ -76,10 +78,12 @@ pub fn page_run<B: Allocator, R: Read, W: Write, L: Ledger>(
     ensures failed { FailsAs result steps.old steps.new }
 {
     // form: the parameter `form` is for the contract alone
-    let run = read_run(heap, alloc, reader, limits, aside, steps)?;
-    let page = page_of(&run, alloc);
+    let mut run = read_run(heap, alloc, reader, limits, aside, steps)?;
+    let page = page_of(&mut run, alloc);
     // form: drop before exit
-    drop(run);
+    let Run { bench, consoles } = run;
+    bench.discard();
+    drop(consoles);
     let Ok(text) = page else {
         return Err(Fault::OutOfMemory);
     };

@@ -7,7 +7,7 @@ ghost use Rattle.program_core.specs.Views.{presence_of, view_of};
 
 use crate::aside::Aside;
 use crate::fault::Fault;
-use crate::inputs::read_run;
+use crate::inputs::{Run, read_run};
 use crate::printing::print;
 use bench_core::Limits;
 use command_line::{Drawing, Form, Question};
@@ -49,7 +49,8 @@ fn view_of<'w>(drawing: Drawing<'w>) -> View<'w>
     }
 }
 
-/// Reads a run from the input, and prints its picture.
+/// Reads a run from the input, and prints its picture. If the input is refused, `aside` gets the hint, if there is one.
+/// `steps` counts the calls of `read`.
 pub fn draw_run<B: Allocator, R: Read, W: Write, L: Ledger>(
     heap: Global,
     alloc: &B,
@@ -71,7 +72,9 @@ pub fn draw_run<B: Allocator, R: Read, W: Write, L: Ledger>(
     let run = read_run(heap, alloc, reader, limits, aside, steps)?;
     let drawn = draw(&run.bench, alloc, &run.consoles, view_of(drawing));
     // form: drop before exit
-    drop(run);
+    let Run { bench, consoles } = run;
+    bench.discard();
+    drop(consoles);
     // form: a `match`, as the proof cites what `Fault::from` ensures
     let text = match drawn {
         Ok(text) => text,

@@ -1,10 +1,11 @@
 //! Prints what each choice of the command line asks for.
-ghost use Rattle.std.specs.Prelude.{◌≡◌, ◌≢◌, ◌⊎◌, IfErr, OnOk};
+ghost use Rattle.std.specs.Prelude.{◌≡◌, ◌≢◌, ◌⊎◌, IfErr, IfOk, OnOk};
 ghost use Rattle.std.specs.Io.KnownBytes.{IsAtEnd};
 ghost use Rattle.command_line.specs.declared.chosen.Form.{Form};
 ghost use Rattle.command_line.specs.declared.chosen.Form.TheVariants as forms;
 ghost use Rattle.command_line.specs.declared.chosen.Subcommand.TheVariants as subcommands;
 ghost use Rattle.progress_core.specs.Lines.{TellsTried, TellsWalked};
+ghost use Rattle.run_core.specs.Report.{history_text};
 ghost use Rattle.program_core.specs.Program.{EndsAt, EndsAsText, EndsSoon, FailsAs, IsEarly, IsReadBy, KeepsBefore, TellsMemory, TellsOn, TellsWhole, question_of};
 
 use crate::aside::Aside;
@@ -12,7 +13,6 @@ use crate::exploring::{asked_of, tell_explored};
 use crate::fault::Fault;
 use crate::importing::import_events;
 use crate::inputs::read_bench;
-use crate::lost::Lost;
 use crate::pages::page_run;
 use crate::pictures::draw_run;
 use crate::racing::race_script;
@@ -20,11 +20,12 @@ use crate::shown::{load_shown, play_shown};
 use crate::stepping::step_script;
 use crate::texts::{read_script, session_line};
 use crate::whatifs::tell_whatif;
-use bench_core::Limits;
+use bench_core::{Bench, Limits};
 use command_line::{About, Choice, Form, Subcommand};
 use explain_core::{Question, explain_asked};
+use payload_core::Oom;
 use progress_core::Teller;
-use script_core::{Steps, report_history, write_out};
+use script_core::{Lost, Steps, report_history, write_out};
 use std::alloc::{Allocator, Global};
 use std::io::{Read, Write};
 use std::sync::Wait;
@@ -44,7 +45,19 @@ pub(crate) fn print<W: Write>(writer: &mut W, text: &[u8]) -> Result<(), Fault>
     }
 }
 
-/// Races the lines of the script that the input gives, and prints the report of what the race recorded.
+/// The report of what the bench recorded.
+fn history_of<'a, B: Allocator>(
+    bench: &mut Bench<'a, B>,
+    alloc: &'a B,
+) -> Result<Vec<u8, &'a B>, Oom>
+    ensures { IfOk result (λ report. report.items ≡ history_text bench.old) }
+{
+    // form: mutable, as the owner lends it so
+    report_history(bench, alloc)
+}
+
+/// Races the lines of the script that the input gives, and prints the report of what the race recorded. If the input is
+/// refused, `aside` gets the hint, if there is one.
 fn race_report<B: Allocator + Sync, T: Threads + Wait + Sync, R: Read, W: Write, L: Ledger>(
     alloc: &B,
     reader: &mut R,
@@ -67,16 +80,17 @@ fn race_report<B: Allocator + Sync, T: Threads + Wait + Sync, R: Read, W: Write,
     let bench = race_script(rt, alloc, &script, limits);
     // form: drop before exit
     drop(script);
-    let bench = bench?;
-    let text = report_history(&bench, alloc);
-    drop(bench);
+    let mut bench = bench?;
+    let text = history_of(&mut bench, alloc);
+    bench.discard();
     let Ok(text) = text else {
         return Err(Fault::OutOfMemory);
     };
     print(writer, &text)
 }
 
-/// Races the lines of the script that the input gives, and prints the session of the bench that the race leaves.
+/// Races the lines of the script that the input gives, and prints the session of the bench that the race leaves. If the
+/// input is refused, `aside` gets the hint, if there is one.
 fn race_session<B: Allocator + Sync, T: Threads + Wait + Sync, R: Read, W: Write, L: Ledger>(
     rt: &T,
     heap: Global,
@@ -97,9 +111,9 @@ fn race_session<B: Allocator + Sync, T: Threads + Wait + Sync, R: Read, W: Write
     let bench = race_script(rt, alloc, &script, limits);
     // form: drop before exit
     drop(script);
-    let bench = bench?;
-    let text = session_line(heap, &bench);
-    drop(bench);
+    let mut bench = bench?;
+    let text = session_line(heap, &mut bench);
+    bench.discard();
     let Ok(text) = text else {
         return Err(Fault::OutOfMemory);
     };
@@ -117,7 +131,8 @@ fn question_of<'w>(chosen: command_line::Question<'w>) -> Question<'w>
     }
 }
 
-/// Prints why presences are online at a node of the bench that the input gives, or why not.
+/// Prints why presences are online at a node of the bench that the input gives, or why not. If the input is refused,
+/// `aside` gets the hint, if there is one.
 fn explain_bench<B: Allocator, R: Read, W: Write, L: Ledger>(
     heap: Global,
     alloc: &B,
@@ -139,7 +154,7 @@ fn explain_bench<B: Allocator, R: Read, W: Write, L: Ledger>(
     let bench = read_bench(heap, alloc, reader, limits, aside, steps)?;
     let told = explain_asked(&bench, alloc, question_of(question));
     // form: drop before exit
-    drop(bench);
+    bench.discard();
     // form: a `match`, as the proof cites what `Fault::from` ensures
     let text = match told {
         Ok(text) => text,
@@ -149,7 +164,8 @@ fn explain_bench<B: Allocator, R: Read, W: Write, L: Ledger>(
 }
 
 /// Prints what would have made a difference to presences at a node of the bench that the input gives, or the run with
-/// one change. Lines on `errors` tell how many changes were tried.
+/// one change. Lines on `errors` tell how many changes were tried. If the input is refused, `aside` gets the hint, if
+/// there is one.
 fn tell_changes<B: Allocator, R: Read, W: Write, L: Ledger, C: Clock, E: Write>(
     heap: Global,
     alloc: &B,
@@ -173,11 +189,11 @@ fn tell_changes<B: Allocator, R: Read, W: Write, L: Ledger, C: Clock, E: Write>(
     ensures progress { TellsTried (E.contents errors.old) (E.contents errors.new) }
 {
     // form: the parameter `form` is for the contract alone
-    let bench = read_bench(heap, alloc, reader, limits, aside, steps)?;
+    let mut bench = read_bench(heap, alloc, reader, limits, aside, steps)?;
     let mut teller = Teller::new(heap, clock, errors);
-    let told = tell_whatif(&bench, alloc, question, change, &mut teller);
+    let told = tell_whatif(&mut bench, alloc, question, change, &mut teller);
     // form: drop before exit
-    drop(bench);
+    bench.discard();
     // form: a `match`, as the proof cites what `Fault::from` ensures
     let text = match told {
         Ok(text) => text,
@@ -187,7 +203,7 @@ fn tell_changes<B: Allocator, R: Read, W: Write, L: Ledger, C: Clock, E: Write>(
 }
 
 /// Prints what the network could have made of the bench that the input gives, or a run that leads to one outcome. Lines
-/// on `errors` tell how far the walk has come.
+/// on `errors` tell how far the walk has come. If the input is refused, `aside` gets the hint, if there is one.
 fn explore_bench<B: Allocator, R: Read, W: Write, L: Ledger, C: Clock, E: Write>(
     heap: Global,
     alloc: &B,
@@ -214,12 +230,12 @@ fn explore_bench<B: Allocator, R: Read, W: Write, L: Ledger, C: Clock, E: Write>
     ensures progress { TellsWalked (E.contents errors.old) (E.contents errors.new) }
 {
     // form: the parameter `form` is for the contract alone
-    let bench = read_bench(heap, alloc, reader, limits, aside, steps)?;
+    let mut bench = read_bench(heap, alloc, reader, limits, aside, steps)?;
     let question = asked_of(about, lost, again, states);
     let mut teller = Teller::new(heap, clock, errors);
-    let told = tell_explored(&bench, alloc, question, outcome, &mut teller);
+    let told = tell_explored(&mut bench, alloc, question, outcome, &mut teller);
     // form: drop before exit
-    drop(bench);
+    bench.discard();
     // form: a `match`, as the proof cites what `Fault::from` ensures
     let text = match told {
         Ok(text) => text,
@@ -233,7 +249,7 @@ fn explore_bench<B: Allocator, R: Read, W: Write, L: Ledger, C: Clock, E: Write>
 /// `limits` are those of the bench, unless the input is a session, which has its own. JSON, hints and lines on how far
 /// work has come take their memory from `heap`; benches and all other texts take theirs from `alloc`. `steps` counts
 /// the calls of `read`. On `errors` stand only the signs of a prompt on a terminal, how far long work has come, and
-/// what is missing from an import; `lost` says if the last can't be written.
+/// what is missing from an import; `lost` notes if what is missing can't be written.
 pub fn answer<
     B: Allocator + Sync,
     T: Threads + Wait + Sync,

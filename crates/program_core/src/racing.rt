@@ -52,14 +52,14 @@ fn outcome<'a, B: Allocator>(
         }
         Err((fault, bench)) => {
             // form: drop before exit
-            drop(bench);
+            bench.discard();
             Err(fault_of(fault))
         }
     }
 }
 
-/// The bench that a race of the script's lines leaves; `NotAllowed` if a line isn't an act, or else the fault of the
-/// race. The lines of different actors may come in any order.
+/// The bench that a race of the script's lines leaves. `NotAllowed` if a line isn't an act; if the race ends with a
+/// fault, that fault. The lines of different actors may come in any order.
 pub fn race_script<'a, B: Allocator + Sync, T: Threads + Wait + Sync>(
     rt: &T,
     alloc: &'a B,

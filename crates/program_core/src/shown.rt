@@ -13,6 +13,7 @@ ghost use Rattle.program_core.specs.Texts.{session_text, text_bytes};
 
 use crate::aside::Aside;
 use crate::fault::{Fault, Refused};
+use crate::inputs::consoles_of;
 use crate::printing::print;
 use crate::text::{Text, bytes_of};
 use crate::texts::{read_script, session_line, tell_session};
@@ -22,9 +23,7 @@ use script_core::{Played, Script, Steps, console_names, run_script};
 use std::alloc::{Allocator, Global};
 use std::io::{Read, Write};
 use std::sync::ledger::Ledger;
-use transcript_core::{
-    bench_steps, first_in, first_refused, free_consoles, script_of_calls, script_steps,
-};
+use transcript_core::{bench_steps, first_in, first_refused, script_of_calls, script_steps};
 
 /// The text to print, and, in a strict run, the first act or unwind that was refused, if any was.
 #[derive(Drop)]
@@ -39,9 +38,9 @@ fn steps_of_script<'a, B: Allocator>(
     script: &Script<&'a B>,
     alloc: &'a B,
     limits: Limits,
-    bench: &Bench<'a, B>,
+    bench: &mut Bench<'a, B>,
 ) -> Result<Text<&'a B>, Fault>
-    requires { bench.now ≡ played limits (plain_script script.now) }
+    requires { bench.old ≡ played limits (plain_script script.now) }
     ensures ok { IfOk result (λ text. text_bytes text ≡ script_steps limits (plain_script script.now)) }
     ensures err { IfErr result IsWant }
 {
@@ -53,11 +52,11 @@ fn steps_of_script<'a, B: Allocator>(
 
 /// The report of the calls that a bench recorded, with each call above what it printed.
 fn steps_of_bench<'a, B: Allocator>(
-    bench: &Bench<'a, B>,
+    bench: &mut Bench<'a, B>,
     alloc: &'a B,
     consoles: &TextSet<&'a B>,
 ) -> Result<Text<&'a B>, Fault>
-    ensures ok { IfOk result (λ text. text_bytes text ≡ bench_steps bench.now consoles.now) }
+    ensures ok { IfOk result (λ text. text_bytes text ≡ bench_steps bench.old consoles.now) }
     ensures err { IfErr result IsWant }
 {
     match bench_steps(bench, alloc, consoles) {
@@ -68,12 +67,12 @@ fn steps_of_bench<'a, B: Allocator>(
 
 /// The recorded calls as a script, in which the consoles have these names.
 fn calls_of<'a, B: Allocator>(
-    bench: &Bench<'a, B>,
+    bench: &mut Bench<'a, B>,
     alloc: &'a B,
     consoles: &TextSet<&'a B>,
 ) -> Result<Text<&'a B>, Fault>
-    ensures ok { IfOk result (λ text. IsScriptOf bench.now consoles.now (text_bytes text)) }
-    ensures err { IfErr result (RefusesCalls bench.now consoles.now) }
+    ensures ok { IfOk result (λ text. IsScriptOf bench.old consoles.now (text_bytes text)) }
+    ensures err { IfErr result (RefusesCalls bench.old consoles.now) }
 {
     // form: each arm is a case of the proof
     match script_of_calls(bench, alloc, consoles) {
@@ -83,8 +82,11 @@ fn calls_of<'a, B: Allocator>(
 }
 
 /// The session of a bench, and a line feed.
-fn session_of<'a, B: Allocator>(heap: Global, bench: &Bench<'a, B>) -> Result<Text<&'a B>, Fault>
-    ensures ok { IfOk result (λ text. text_bytes text ≡ session_text bench.now) }
+fn session_of<'a, B: Allocator>(
+    heap: Global,
+    bench: &mut Bench<'a, B>,
+) -> Result<Text<&'a B>, Fault>
+    ensures ok { IfOk result (λ text. text_bytes text ≡ session_text bench.old) }
     ensures err { IfErr result IsWant }
 {
     match session_line(heap, bench) {
@@ -107,16 +109,16 @@ fn played_text<'a, B: Allocator>(
     let Ok(played) = run_script(script, alloc, limits) else {
         return Err(Fault::OutOfMemory);
     };
-    let Played { bench, report } = played;
+    let Played { mut bench, report } = played;
     let text = match form {
         // only an import chooses a page
         Form::Report | Form::Page => Ok(Text::Own(report)),
-        Form::Steps => steps_of_script(script, alloc, limits, &bench),
-        Form::Script => calls_of(&bench, alloc, console_names(script)),
-        Form::Session => session_of(heap, &bench),
+        Form::Steps => steps_of_script(script, alloc, limits, &mut bench),
+        Form::Script => calls_of(&mut bench, alloc, console_names(script)),
+        Form::Session => session_of(heap, &mut bench),
     };
     // form: drop before exit
-    drop(bench);
+    bench.discard();
     text
 }
 
@@ -131,20 +133,20 @@ fn told_text<'a, B: Allocator>(
     ensures ok { IfOk result (λ text. PrintsBench form told.entry.bench (text_bytes text)) }
     ensures err { IfErr result (RefusesBench form told.entry.bench) }
 {
-    let Played { bench, report } = told;
-    let Ok(consoles) = free_consoles(&bench, alloc) else {
+    let Played { mut bench, report } = told;
+    let Ok(consoles) = consoles_of(&mut bench, alloc) else {
         // form: drop before exit
-        drop(bench);
+        bench.discard();
         return Err(Fault::OutOfMemory);
     };
     let text = match form {
         // only an import chooses a page
         Form::Report | Form::Page => Ok(Text::Own(report)),
-        Form::Steps => steps_of_bench(&bench, alloc, &consoles),
-        Form::Script => calls_of(&bench, alloc, &consoles),
-        Form::Session => session_of(heap, &bench),
+        Form::Steps => steps_of_bench(&mut bench, alloc, &consoles),
+        Form::Script => calls_of(&mut bench, alloc, &consoles),
+        Form::Session => session_of(heap, &mut bench),
     };
-    drop(bench);
+    bench.discard();
     text
 }
 
@@ -172,8 +174,9 @@ fn refused_line<'a, B: Allocator>(
 }
 
 /// The first refused call that a bench recorded; `None` if no call was refused, or the run isn't strict.
-fn refused_act<'a, B: Allocator>(bench: &Bench<'a, B>, strict: bool) -> Option<Refused>
-    ensures { result ≡ refused_act strict bench.now }
+fn refused_act<'a, B: Allocator>(bench: &mut Bench<'a, B>, strict: bool) -> Option<Refused>
+    ensures refused { result ≡ refused_act strict bench.old }
+    ensures bench { bench.new ≡ bench.old }
 {
     if !strict {
         return None;
@@ -187,8 +190,8 @@ fn refused_act<'a, B: Allocator>(bench: &Bench<'a, B>, strict: bool) -> Option<R
     }
 }
 
-/// Plays a script, and gives what is shown of the play in this form. If `strict`, plays the script once more, to find
-/// the first refusal.
+/// Plays a script, and gives what is shown of the play in this form. In a strict run plays the script once more, to
+/// find the first refusal.
 fn show_script<'a, B: Allocator>(
     script: &Script<&'a B>,
     heap: Global,
@@ -209,7 +212,7 @@ fn show_script<'a, B: Allocator>(
 fn show_session<'a, B: Allocator>(
     heap: Global,
     alloc: &'a B,
-    told: Played<'a, B>,
+    mut told: Played<'a, B>,
     form: Form,
     strict: bool,
 ) -> Result<Shown<&'a B>, Fault>
@@ -217,7 +220,7 @@ fn show_session<'a, B: Allocator>(
     ensures ok { IfOk result (λ shown. ShowsBench strict form told.entry.bench (text_bytes shown.text) shown.refused) }
     ensures err { IfErr result (RefusesBench form told.entry.bench) }
 {
-    let refused = refused_act(&told.bench, strict);
+    let refused = refused_act(&mut told.bench, strict);
     let text = told_text(heap, alloc, told, form)?;
     Ok(Shown { text, refused })
 }
@@ -234,7 +237,8 @@ fn finish<W: Write, A: Allocator>(writer: &mut W, shown: &Shown<A>) -> Result<()
 }
 
 /// Reads and plays a script, and prints the play in the form that was chosen. If an act or an unwind was refused in a
-/// strict run, ends with the fault `Refused` once the text is written.
+/// strict run, ends with the fault `Refused` once the text is written. If the input is refused, `aside` gets the hint,
+/// if there is one. `steps` counts the calls of `read`.
 pub fn play_shown<B: Allocator, R: Read, W: Write, L: Ledger>(
     heap: Global,
     alloc: &B,
@@ -264,7 +268,8 @@ pub fn play_shown<B: Allocator, R: Read, W: Write, L: Ledger>(
 }
 
 /// Reads a session, plays it again, and prints that play in the form that was chosen. If a call was refused in a strict
-/// run, ends with the fault `Refused` once the text is written.
+/// run, ends with the fault `Refused` once the text is written. If the input is refused, `aside` gets the hint, if
+/// there is one.
 pub fn load_shown<B: Allocator, R: Read, W: Write, L: Ledger>(
     heap: Global,
     alloc: &B,

@@ -7,13 +7,12 @@ ghost use Rattle.stream_core.specs.Steps.{Steps as Count};
 
 use crate::aside::Aside;
 use crate::fault::Fault;
-use crate::lost::Lost;
 use crate::printing::answer;
 use bench_core::Limits;
 use clap::error::ErrorKind;
 use command_line::{Choice, Subcommand, choice};
 use payload_core::Oom;
-use script_core::{Steps, write_out};
+use script_core::{Lost, Steps, write_out};
 use std::alloc::{Allocator, Global};
 use std::convert::AsStr;
 use std::io::{Read, Write};
@@ -33,8 +32,8 @@ fn status_of(answer: Result<(), Fault>) -> u8
     }
 }
 
-/// Prints the fault, if the answer is one, as a line on `errors`, and the hint after it, if there is one, as far as
-/// these can be written; nothing for a check that found a difference.
+/// If the answer is a fault, prints the fault as a line on `errors`, and then the hint, if there is one, both as far as
+/// they can be written. Prints nothing for a check that found a difference.
 fn tell_fault<E: Write>(answer: Result<(), Fault>, aside: &Aside, errors: &mut E)
     ensures quiet { IsFine answer → E.contents errors.new ≡ E.contents errors.old }
 {
@@ -140,8 +139,7 @@ fn answer_on<
     )
 }
 
-/// Does what was chosen, and gives the status. It writes a fault to `errors` as one line, and a hint after it if there
-/// is one, as far as these can be written; nothing for a check that found a difference.
+/// Does what was chosen, and gives the status. Prints a fault and its hint on `errors`, as `tell_fault` does.
 fn run_choice<
     B: Allocator + Sync,
     T: Threads + Wait + Sync,
@@ -284,8 +282,9 @@ pub fn program_counted<
     }
 }
 
-/// Like `program_counted`, but makes the count itself, from `blank`, and drops it. The words stand behind a second
-/// reference, since beside a `Blank` a reference must be to a type that is `Sized`.
+/// Like `program_counted`, but makes the count itself, with the ledger of `blank`, and drops the count and what `lost`
+/// notes. The words stand behind a second reference, since beside a `Blank` a reference must be to a type that is
+/// `Sized`.
 fn program_from<
     S: AsStr,
     B: Allocator + Sync,

@@ -25,8 +25,8 @@ fn help() -> &'static str
     LANGUAGE
 }
 
-/// Reads the input line by line, and answers each line before it reads the next. On a terminal it shows a sign before
-/// it reads a line.
+/// Reads the input line by line, and answers each line before it reads the next. If the input is a terminal, it shows a
+/// sign on `errors` before it reads a line. `steps` counts the calls of `read`.
 pub fn step_script<B: Allocator, R: Read, W: Write, E: Write, L: Ledger>(
     heap: Global,
     alloc: &B,

@@ -23,7 +23,8 @@ use std::sync::ledger::Ledger;
 /// The most bytes of a session, and of the events of logs.
 pub const LONGEST_SESSION: usize = 67_108_864;
 
-/// The script that the input spells. If the input is refused, `aside` gets the hint, if there is one.
+/// The script that the input spells. If the input is refused, `aside` gets the hint, if there is one. `steps` counts
+/// the calls of `read`.
 pub fn read_script<'a, B: Allocator, R: Read, L: Ledger>(
     alloc: &'a B,
     reader: &mut R,
@@ -112,9 +113,10 @@ pub fn tell_session<'a, B: Allocator, R: Read, L: Ledger>(
 /// The session of a bench, and a line feed.
 pub fn session_line<'a, B: Allocator>(
     heap: Global,
-    bench: &Bench<'a, B>,
+    bench: &mut Bench<'a, B>,
 ) -> Result<Vec<u8>, AllocError>
-    ensures { IfOk result (λ text. text.items ≡ session_text bench.now) }
+    ensures text { IfOk result (λ text. text.items ≡ session_text bench.old) }
+    ensures bench { bench.new ≡ bench.old }
 {
     let mut text = save(heap, bench)?;
     text.push(b'\n')?;

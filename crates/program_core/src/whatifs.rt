@@ -20,16 +20,16 @@ fn question_of<'w>(chosen: command_line::Question<'w>) -> Question<'w>
 }
 
 /// The changes that would have made a difference; or, given the number of a `change`, the run with that change, as a
-/// script.
+/// script. Tells `watch` how far it has come.
 pub fn tell_whatif<'a, B: Allocator, W: Watch<Tried>>(
-    bench: &Bench<'a, B>,
+    bench: &mut Bench<'a, B>,
     alloc: &'a B,
     question: command_line::Question<'_>,
     change: Option<u64>,
     watch: &mut W,
 ) -> Result<String<&'a B>, WhatifFault>
-    ensures told { IfOk result (λ text. TellsWhatif bench.now question.entry change (string_bytes text)) }
-    ensures refused { IfErr result (RefusesWhatif bench.now question.entry change) }
+    ensures told { IfOk result (λ text. TellsWhatif bench.old question.entry change (string_bytes text)) }
+    ensures refused { IfErr result (RefusesWhatif bench.old question.entry change) }
     ensures watched { Watched W.told watch.old watch.new }
 {
     match change {

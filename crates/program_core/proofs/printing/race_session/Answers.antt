@@ -6,7 +6,7 @@ use Rattle.program_core.proofs.printing.race_session.Goals as goal
 pub returns-clause-ends : goal.returns-clause-ends
 returns-clause-ends g c =
     ends_race forms.Session c.args.limits c.deref.result.now _ _ _ _ _ c.print.result c.in_ok-script.ensures.script
-    c.in_ok-bench.ensures.raced (c.deref.ensures.value ∙ c.in-Ok.ensures) c.print.ensures
+    c.in_ok-bench.ensures.raced (c.deref.ensures.value ∙ c.in-Ok.ensures.text) c.print.ensures
 
 pub returns-clause-read : goal.returns-clause-read
 returns-clause-read g c = always c.print.result _ c.in_ok-script.ensures.read
