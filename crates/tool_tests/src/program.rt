@@ -142,8 +142,8 @@ const TOLD: &[(&[&str], u8)] = &[
     (&["play", "--help"], 0),
 ];
 
-/// Whether the program ends with this status and reads no input. Refused words must be told on its errors alone, and
-/// help printed on its output alone.
+/// Whether the program ends with this status and reads no input. It must print the refusal of words on its errors
+/// alone, and help on its output alone.
 fn tells_words<T: Threads + Wait + Sync + Abort>(
     heap: Global,
     words: &[&str],

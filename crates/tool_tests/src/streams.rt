@@ -2,7 +2,8 @@
 use crate::cases::{holds, holds_at};
 use bench_core::Limits;
 use script_core::{
-    FakeReader, FakeWriter, InputFault, PlayFault, WriteFault, play, read_input, write_out,
+    FakeReader, FakeWriter, InputFault, Lost, PlayFault, WriteFault, play, read_input, write_noted,
+    write_out,
 };
 use std::alloc::Global;
 use std::io;
@@ -129,6 +130,21 @@ fn is_written_in_part(heap: Global) -> bool {
 #[test]
 fn what_is_written_is_told_of_any_bytes(rt: HostRuntime) {
     assert!(rt; is_written_in_part(rt.alloc()));
+}
+
+/// Whether writing `abc` to a writer with this room notes a loss if and only if the room is too small.
+fn notes_a_loss(heap: Global, room: usize) -> bool {
+    let mut writer = FakeWriter::new(heap, room);
+    let mut lost = Lost::nothing();
+    let written = write_noted(&mut writer, b"abc", &mut lost);
+    lost.is_any() == (room < 3) && written.is_err() == lost.is_any()
+}
+
+#[test]
+fn a_loss_is_noted(rt: HostRuntime) {
+    for room in 0..5usize {
+        holds_at(&rt, notes_a_loss(rt.alloc(), room), room as u64);
+    }
 }
 
 /// A writer that takes nothing at its first call, or is interrupted there, and takes all at each later one.

@@ -5,7 +5,7 @@ use std::time::{Clock, Duration};
 use worker_core::Gate;
 
 /// How often a gate looks whether enough lines have passed, a millisecond apart, before it gives up.
-const TURNS: u32 = 10_000;
+const LOOKS: u32 = 10_000;
 
 /// The most lines that an order may have.
 const LINES: usize = 8;
@@ -91,7 +91,7 @@ impl<R: Clock> InOrder<R> {
 
     /// Waits until `lines` lines have passed, or gives up.
     fn wait_for(&self, lines: u64) {
-        for _ in 0..TURNS {
+        for _ in 0..LOOKS {
             if lines <= self.passed.load(Ordering::SeqCst) {
                 return;
             }

@@ -196,7 +196,7 @@ fn a_race_is_vouched_for(rt: HostRuntime) {
 }
 
 /// Cases: the order in which the gate lets the two lines pass, and the node whose join is then last.
-const TURNS: &[(&[u64], u16)] = &[(&[2, 1], 0), (&[1, 2], 1)];
+const ORDERS: &[(&[u64], u16)] = &[(&[2, 1], 0), (&[1, 2], 1)];
 
 /// Whether the second call of the history is the join of this node.
 fn is_last<'a, B: Allocator>(bench: &mut Bench<'a, B>, node: u16) -> bool {
@@ -208,7 +208,7 @@ fn is_last<'a, B: Allocator>(bench: &mut Bench<'a, B>, node: u16) -> bool {
 
 /// Whether the join of node `later` comes last if the gate lets the lines pass in this order, and each line passes the
 /// gate once.
-fn turns<R: Threads + Wait + Clock + Abort + Sync + Copy>(
+fn lets_pass<R: Threads + Wait + Clock + Abort + Sync + Copy>(
     rt: &R,
     heap: &Global,
     order: &'static [u64],
@@ -222,9 +222,9 @@ fn turns<R: Threads + Wait + Clock + Abort + Sync + Copy>(
 }
 
 #[test]
-fn a_gate_turns_the_order(rt: HostRuntime) {
-    for (order, later) in TURNS {
-        assert!(rt; turns(&rt, &rt.alloc(), order, *later));
+fn a_gate_sets_the_order(rt: HostRuntime) {
+    for (order, later) in ORDERS {
+        assert!(rt; lets_pass(&rt, &rt.alloc(), order, *later));
     }
 }
 

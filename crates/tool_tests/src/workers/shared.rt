@@ -89,6 +89,7 @@ fn ask_many<L: Drop, T: Drop, A: Allocator + Copy, S: Shared<L, T>, R: Wait + Ab
     receipts
 }
 
+/// Asks one line, and holds the lock for this line alone.
 fn ask_alone<L, T, S: Shared<L, T>, R: Wait>(rt: &R, shared: &Mutex<S>, number: u64, line: L) -> T {
     let mut guard = shared.lock(rt);
     let bench = &mut *guard;
