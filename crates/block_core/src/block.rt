@@ -249,8 +249,8 @@ impl<A: Allocator + Copy> Block<A> {
         }
     }
 
-    /// Takes out the live entry of the dot as a handle: moved, or shared if others share the list. `Ok(None)` if there
-    /// is no such entry. The dot must be one of the block's 64. An `Err` changes nothing.
+    /// Takes out the live entry of the dot as a handle: the list's own, or a further one if others share the list.
+    /// `Ok(None)` if there is no such entry. The dot must be one of the block's 64. An `Err` changes nothing.
     pub fn take(&mut self, dot: Dot, alloc: A) -> Result<Option<Handle<A>>, Oom>
         requires { IsIn self.old.name self.old.base dot }
         ensures entry { IfOk result (λ taken. taken ≡ option_map (entry_of dot) (fin.get self.old.map dot)) }

@@ -109,8 +109,8 @@ pub fn get<A: Allocator>(blocks: &[Block<A>], dot: Dot) -> Option<&Handle<A>>
     }
 }
 
-/// Takes the entry of the dot out of the block at `at`, and the block out of the list if it is then empty. `None` if
-/// the block has no such entry. It takes no memory.
+/// Takes the entry of the dot out of the block at `at`, and takes the block out of the list if that was its last live
+/// entry. `None` if the block has no such entry. It takes no memory.
 pub fn take_out<A: Allocator>(blocks: &mut Row<A>, at: usize, dot: Dot) -> Option<Entry<A>>
     requires are { AreBlocks blocks.old.items }
     requires at { IsBlockAt (block_key dot) blocks.old.items at }

@@ -140,8 +140,8 @@ pub fn leaving<A: Allocator + Copy>(
 }
 
 /// The place of our first block from `at` on that may have an entry which leaves; the number of our blocks if there is
-/// none. It first passes over our blocks that are like the message's blocks from `hint` on, one beside the other, and
-/// then over blocks without a dot of `names` that the message speaks of.
+/// none. It compares our blocks from `at` on with the message's from `hint` on, pair by pair, and passes over ours
+/// while the two are alike. It then passes over blocks without a dot of `names` that the message speaks of.
 fn next_gone<A: Allocator>(
     blocks: &[Block<A>],
     at: usize,

@@ -102,8 +102,8 @@ impl<A: Allocator> EntriesByDot<A> {
     }
 
     /// A handle of the dot's entry; `None` if there is none. An entry that may be shared is shared once more, and any
-    /// other is copied. An `Err` means that the count of an entry's copies is at its limit, or that memory for a copy
-    /// was refused.
+    /// other is copied. An `Err` means that the count of the copies that share the entry, or one of its words, is at
+    /// its limit, or that memory for a copy was refused.
     pub fn handle(&self, dot: Dot) -> Result<Option<Handle<A>>, Oom>
     where
         A: Copy,
@@ -263,10 +263,9 @@ impl<A: Allocator> EntriesByDot<A> {
         }
     }
 
-    /// Takes out the entry of the dot, as a handle: moved, or shared if other sets share its block's list. `Ok(None)`
-    /// if there is no such entry. From a shared list an entry may fail to be taken, and then nothing changes: if as
-    /// many handles share it as may, or if it can't be shared and memory for a copy of it is refused. The room never
-    /// falls.
+    /// Takes out the entry of the dot, as a handle: the list's own, or a further one if other sets share the list.
+    /// `Ok(None)` if there is no such entry. An `Err` changes nothing. It comes only from a shared list: the count of
+    /// the entry's handles is at its limit, or memory for a copy of the entry was refused. The room never falls.
     pub fn take(&mut self, dot: Dot) -> Result<Option<Handle<A>>, Oom>
     where
         A: Copy,
@@ -310,7 +309,7 @@ impl<A: Allocator> EntriesByDot<A> {
     }
 
     /// Makes room: after an `Ok`, `count` inserts succeed. The entries stay, and so does the room that was made before,
-    /// even if memory is refused.
+    /// even after an `Err`: memory was refused, or the set could come to more than `TOO_MANY` entries.
     pub fn make_room(&mut self, count: usize) -> Result<(), Oom>
     where
         A: Copy,
@@ -429,8 +428,8 @@ impl<A: Allocator> EntriesByDot<A> {
         Ok(())
     }
 
-    /// A set of the entries of these names. A block's list that may be shared is shared once more, any other is copied.
-    /// The set has no room.
+    /// A new set of the entries of these names. A block's list that may be shared is shared once more, any other is
+    /// copied. The new set has no room.
     pub fn only(&self, names: NameSet) -> Result<EntriesByDot<A>, Oom>
     where
         A: Copy,

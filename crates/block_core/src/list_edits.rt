@@ -124,8 +124,8 @@ fn spare_list<A: Allocator>(entry: Handle<A>, spare: Spare<A>) -> EntryList<A>
     EntryList::of_own(spare.with(entry))
 }
 
-/// Puts an entry whose dot isn't live into the list. A spare in `spare` is taken out, and the entries of the list are
-/// moved or copied into its memory. Without a spare the entry goes into the list itself or, if the list refuses it,
+/// Puts an entry whose dot isn't live into the list. If there is a spare, it is used up: the list's entries move into
+/// its memory, or are copied there. Without a spare the entry goes into the list itself or, if the list refuses it,
 /// into a copy of the live entries, which then is the list. If memory is refused, the entry comes back.
 pub fn put_in<A: Allocator + Copy>(
     items: &mut EntryList<A>,

@@ -47,7 +47,7 @@ fn put_found<'x, A: Allocator + Copy>(
     }
 }
 
-/// The rows of the entries that left in the call of `change` and whose name is known and up in `after`.
+/// The rows of the entries that left in the call that gave `change` and whose name is known and up in `after`.
 fn rows_left<'x, A: Allocator + Copy>(
     alloc: A,
     change: &'x Change<A>,
@@ -64,7 +64,7 @@ fn rows_left<'x, A: Allocator + Copy>(
     Ok(rows)
 }
 
-/// The rows of the entries that joined in the call of `change` and whose name is known and up in `after`.
+/// The rows of the entries that joined in the call that gave `change` and whose name is known and up in `after`.
 fn rows_joined<'x, A: Allocator + Copy>(
     alloc: A,
     change: &Change<A>,
@@ -97,7 +97,8 @@ fn rows_of_name<'x, A: Allocator + Copy>(
     Ok(rows)
 }
 
-/// The rows that the call of `change` took out of the online list of `after`, in any order.
+/// The rows that left the online list in the call that gave `change`, in any order; `after` is the replica after that
+/// call.
 fn taken<'x, A: Allocator + Copy>(
     alloc: A,
     change: &'x Change<A>,
@@ -111,7 +112,8 @@ fn taken<'x, A: Allocator + Copy>(
     }
 }
 
-/// The rows that the call of `change` put into the online list of `after`, in any order.
+/// The rows that joined the online list in the call that gave `change`, in any order; `after` is the replica after that
+/// call.
 fn given<'x, A: Allocator + Copy>(
     alloc: A,
     change: &Change<A>,

@@ -9,7 +9,7 @@ use payload_core::Oom;
 use std::alloc::Allocator;
 
 /// How two online lists, both in order, differ: `left` has the rows that only `before` has, `joined` those that only
-/// `after` has. Each takes one pass over both lists.
+/// `after` has. Each side takes one pass over both lists.
 pub fn diff<'call, A: Allocator + Copy>(
     alloc: A,
     before: &'call [OnlineRow<A>],

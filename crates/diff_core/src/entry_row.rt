@@ -86,12 +86,17 @@ impl<'x, A: Allocator> Ord for EntryRow<'x, A> {
 
     fn cmp(&self, other: &Self) -> Ordering {
         let (one, other) = (self.entry, other.entry);
-        one.topic
-            .cmp(&other.topic)
-            .then_with(|| one.key.cmp(&other.key))
-            .then_with(|| one.dot.name.cmp(&other.dot.name))
-            .then_with(|| one.pid.cmp(&other.pid))
-            .then_with(|| one.dot.clock.cmp(&other.dot.clock))
-            .then_with(|| one.metadata.cmp(&other.metadata))
+        // form: read outside the closures, whose results the proof takes from their bodies
+        let (key, other_key) = (one.key(), other.key());
+        let (dot, other_dot) = (one.dot, other.dot);
+        let (pid, other_pid) = (one.pid, other.pid);
+        let (metadata, other_metadata) = (one.metadata(), other.metadata());
+        one.topic()
+            .cmp(other.topic())
+            .then_with(|| key.cmp(other_key))
+            .then_with(|| dot.name.cmp(&other_dot.name))
+            .then_with(|| pid.cmp(&other_pid))
+            .then_with(|| dot.clock.cmp(&other_dot.clock))
+            .then_with(|| metadata.cmp(other_metadata))
     }
 }

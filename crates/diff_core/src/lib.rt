@@ -1,7 +1,7 @@
 //! What an engineer looks at: who is online at a replica, as sorted rows, and how two such lists differ.
 //!
-//! It stands on `replica_core` (the replica that is looked at) and `payload_core` (words), and names the plain types of
-//! the crates below; it knows nothing of nodes, steps and clusters.
+//! The crate stands on `replica_core` (the replica whose list it makes) and `payload_core` (words), and names the plain
+//! types of the crates below; it knows nothing of nodes, steps and clusters.
 //!
 //! The modules in reading order: `online_row`, what is shown of a live entry; `listing`, the online list; `row_diff`
 //! and `comparing`, how two lists differ; `entry_row`, a borrowed entry seen as its row; `few_rows`, the row that a

@@ -58,8 +58,8 @@ fn rows_beyond<A: Allocator + Copy>(
 }
 
 /// How an online list differs from what it was before several changes. `left` and `joined` are the rows that left and
-/// joined in these changes, each as often as it did, in any order. Sorts copies of these rows, and reads neither online
-/// list.
+/// joined in these changes, each once for each time that it left or joined, in any order. Sorts copies of these rows,
+/// and reads neither online list.
 pub fn net<'call, A: Allocator + Copy>(
     alloc: A,
     left: &'call [OnlineRow<A>],

@@ -40,12 +40,12 @@ impl<A: Allocator> OnlineRow<A> {
         ensures { IfOk result (λ row. row ≡ row_of (entry.now.dot, presence_of entry.now)) }
     {
         Ok(OnlineRow {
-            topic: entry.topic.try_copy()?,
-            key: entry.key.try_copy()?,
+            topic: entry.topic().try_copy()?,
+            key: entry.key().try_copy()?,
             name: entry.dot.name,
             pid: entry.pid,
             clock: entry.dot.clock,
-            metadata: entry.metadata.try_copy()?,
+            metadata: entry.metadata().try_copy()?,
         })
     }
 
@@ -55,12 +55,12 @@ impl<A: Allocator> OnlineRow<A> {
         ensures { result ≡ row_of (entry.now.dot, presence_of entry.now) }
     {
         OnlineRow {
-            topic: entry.topic.copy_short(),
-            key: entry.key.copy_short(),
+            topic: entry.topic().copy_short(),
+            key: entry.key().copy_short(),
             name: entry.dot.name,
             pid: entry.pid,
             clock: entry.dot.clock,
-            metadata: entry.metadata.copy_short(),
+            metadata: entry.metadata().copy_short(),
         }
     }
 

@@ -3,8 +3,8 @@
 ghost use Rattle.std.specs.Prelude.{◌↔◌, IsTrue};
 ghost use Rattle.dots_core.specs.Dots.{IsValid};
 
-/// The number of a replica, and a clock, by which the dots that this replica takes are counted from 1 (RR-8083,
-/// 'dots'). Each join, update and leave takes a fresh dot.
+/// The name of a replica, and a clock, which counts from 1 the dots that the replica takes (RR-8083, 'dots'). Each
+/// join, update and leave takes a fresh dot.
 #[derive(Clone, Copy, Debug, PartialEq, Eq)]
 pub struct Dot {
     pub name: u16,

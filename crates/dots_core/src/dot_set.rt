@@ -133,8 +133,9 @@ impl<A: Allocator> DotSet<A> {
         self.parts[at].has_all_of(&other.parts[at])
     }
 
-    /// The first dot of the set that has one of `names` and isn't below `dot`; `None` if there is none. A search finds
-    /// it among the dots of `dot.name`; if none of these qualifies, it is the first dot of a later name in `names`.
+    /// The first dot of the set that has one of `names` and isn't below `dot`; `None` if there is none. A binary search
+    /// finds it among the dots of `dot.name`; if none of these qualifies, it is the first dot of the next name in
+    /// `names` that has a dot.
     pub fn first_from(&self, names: NameSet, dot: Dot) -> Option<Dot>
         ensures { IsFirstDot (set.contains names) self.now dot result }
     {
@@ -220,7 +221,8 @@ impl<A: Allocator> DotSet<A> {
         A: Copy,
         ensures { IfOk result (λ copy. copy ≡ self.now) }
     {
-        let _ = &self.parts; // the proof reads that no name is past the last
+        // form: the proof reads that no name is past the last
+        let _ = &self.parts;
         self.only(NameSet::all())
     }
 
@@ -256,7 +258,8 @@ impl<A: Allocator> DotSet<A> {
         ensures rest { others name self.new ≡ others name self.old }
         ensures whole { self.new ≡ with_part name part self.old }
     {
-        let _ = &part.clock; // the proof reads that the part is canonical
+        // form: the proof reads that the part is canonical
+        let _ = &part.clock;
         self.parts[usize::from(name)] = part;
     }
 

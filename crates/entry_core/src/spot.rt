@@ -10,9 +10,9 @@ use crate::masked::is_below;
 use dots_core::Dot;
 use std::alloc::Allocator;
 
-/// `Ok` with the place of the dot's entry, or `Err` with the place where it would stand. The place tried first is the
-/// number of mask bits below the dot's, which is right if the mask has exactly the clocks of these entries. If that
-/// place is wrong, a binary search finds the right one.
+/// `Ok` with the place of the dot's entry, or `Err` with the place where it would stand. The first guess is the number
+/// of mask bits that are set below the dot's bit, which is right if the mask has exactly the clocks of these entries.
+/// If the guess is wrong, a binary search finds the place.
 pub fn spot_in<A: Allocator>(entries: &[Handle<A>], mask: u64, dot: Dot) -> Result<usize, usize>
     requires { Rises entries.now }
     ensures place { result ≡ spot dot entries.now }

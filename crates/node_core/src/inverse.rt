@@ -13,7 +13,7 @@ pub enum Inverse<A: Allocator> {
     Change(Change<A>),
     /// The step sent the delta, which is the last message.
     Broadcast,
-    /// The step sent the last message, and that wasn't the delta: an extract, a request or an answer.
+    /// The step was an extract, a request or an answer. It sent the last message.
     Sent,
 }
 

@@ -115,7 +115,7 @@ impl<'a, B: Allocator> Node<'a, B> {
         self.replica.give_delta(payload);
     }
 
-    /// Takes back a step that sent no delta but another message: takes the last message out of the outbox.
+    /// Takes back an extract, a request or an answer: takes the last message out of the outbox.
     fn take_back_message(&mut self)
         requires { LeadsSomewhere OfSent self.old }
         ensures { GivesBack OfSent self.old self.new }
@@ -257,7 +257,7 @@ impl<'a, B: Allocator> Node<'a, B> {
         Ok(Inverse::Change(change))
     }
 
-    /// Sends a request for the names that the replica knows.
+    /// Sends a request for the names that the replica knows. `OutboxFull` comes before `OutOfMemory`.
     fn request(&mut self) -> Result<Inverse<&'a B>, StepFault>
         ensures { Takes self.old Request None result self.new }
     {

@@ -224,8 +224,8 @@ impl<A: Allocator + Copy> EntrySet<A> {
     }
 
     /// A handle of the dot's entry; `None` if there is none. An entry that may be shared is shared once more, and any
-    /// other is copied. An `Err` means that the count of an entry's copies is at its limit, or that memory for a copy
-    /// was refused.
+    /// other is copied. An `Err` means that the entry or one of its words is shared as often as it may be, or that
+    /// memory for a copy was refused.
     pub fn handle(&self, dot: Dot) -> Result<Option<Handle<A>>, Oom>
         ensures { IfOk result (λ handle. handle ≡ option_map (entry_of dot) (fin.get self.now.map dot)) }
     {
@@ -233,9 +233,8 @@ impl<A: Allocator + Copy> EntrySet<A> {
     }
 
     /// Takes out the entry of the dot, as a handle: moved, or shared if other sets share its block's list. `Ok(None)`
-    /// if there is no such entry. From a shared list an entry may fail to be taken, and then nothing changes: if as
-    /// many handles share it as may, or if it can't be shared and memory for a copy of it is refused. The room never
-    /// falls.
+    /// if there is no such entry. An `Err` comes only of a shared list: the entry is shared as often as it may be, or
+    /// it can't be shared and memory for a copy was refused. An `Err` changes nothing. The room never falls.
     pub fn take(&mut self, dot: Dot) -> Result<Option<Handle<A>>, Oom>
         ensures entry { IfOk result (λ taken. taken ≡ option_map (entry_of dot) (fin.get self.old.map dot)) }
         ensures map { OnOk result (self.new.map ≡ fin.remove self.old.map dot) }

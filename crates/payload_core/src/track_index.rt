@@ -18,7 +18,7 @@ use std::marker::Model;
 pub enum Holder {
     /// At this dot alone.
     One(Dot),
-    /// Several entries had the mark at the same time. Which of them are still in the set isn't known.
+    /// The index doesn't know: several entries had the mark at the same time, or the index isn't of their name.
     Several,
 }
 
@@ -80,8 +80,8 @@ impl<A: Allocator> TrackIndex<A> {
         }
     }
 
-    /// Where the name's entries with this mark are: `None` if no entry has the mark, and `Several` if the index isn't
-    /// of the name.
+    /// Where the name's entries with this mark are; `None` if no entry has the mark. Always `Several` if the index
+    /// isn't of the name.
     pub fn holder(&self, name: u16, mark: u64) -> Option<Holder>
         ensures { result ≡ holder_of self.now name mark }
     {
@@ -102,7 +102,7 @@ impl<A: Allocator> TrackIndex<A> {
         if !self.is_of(entry.dot.name) {
             return;
         }
-        let mark = mark(entry.pid, &entry.topic, &entry.key);
+        let mark = mark(entry.pid, entry.topic(), entry.key());
         // form: taken out for the edit, and put back
         if let Some(mut holders) = self.holders.take() {
             take_out(&mut holders, mark, entry.dot);
@@ -143,7 +143,7 @@ impl<A: Allocator + Copy> TrackIndex<A> {
         if !self.is_of(entry.dot.name) {
             return;
         }
-        let mark = mark(entry.pid, &entry.topic, &entry.key);
+        let mark = mark(entry.pid, entry.topic(), entry.key());
         // form: taken out for the edit, and put back
         if let Some(mut holders) = self.holders.take() {
             put_in(&mut holders, mark, entry.dot);

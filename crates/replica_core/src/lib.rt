@@ -1,4 +1,4 @@
-//! The replica of one presence node: an observed-remove set with exact undo of its last change.
+//! The replica of one presence node: an observed-remove set with exact undo of its last call.
 //!
 //! A replica joins processes under topics and keys, updates them and lets them leave, sends what it has seen, and
 //! merges what others sent. It does so in the manner of Phoenix.Tracker.State, with sets. The crate can be used on its

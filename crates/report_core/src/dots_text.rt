@@ -10,7 +10,8 @@ use payload_core::Oom;
 use replica_core::{Replica, Status};
 use std::alloc::Allocator;
 
-/// The context clock of a name, which must be below 32.
+/// The context clock of a name, which must be below 32. Each dot in `dots` must have a name below 32 and a clock from 1
+/// to 1,000,000,000.
 pub fn clock_of<A: Allocator>(dots: &DotSet<A>, name: u16) -> u64
     requires name { name < 32 }
     requires valid { AreValid dots.now }
@@ -21,7 +22,7 @@ pub fn clock_of<A: Allocator>(dots: &DotSet<A>, name: u16) -> u64
     dots.clock_of(name)
 }
 
-/// The cloud of a name, which must be below 32, by rising clock.
+/// The cloud of a name, by rising clock. Name and dots must be as in `clock_of`.
 pub fn cloud_of<A: Allocator>(dots: &DotSet<A>, name: u16) -> &[u64]
     requires name { name < 32 }
     requires valid { AreValid dots.now }

@@ -148,7 +148,7 @@ fn undo_one<'a, B: Allocator>(
 }
 
 /// Undoes the steps with these numbers in turn, and gives for each node the rows that left and joined its online list
-/// in these undos. The bench must be able to undo each step once those before it are undone.
+/// in these undos. The bench must be able to undo each step once it has undone those that stand earlier in `numbers`.
 pub fn undo_each<'a, B: Allocator>(
     bench: &mut Bench<'a, B>,
     actor: u16,

@@ -57,11 +57,11 @@ pub(crate) fn put_entry<'x, A: Allocator, N: Allocator, R: Allocator>(
     put_part(text, line, sign)?;
     let entry = row.entry();
     let parts = Parts {
-        topic: entry.topic.as_str(),
-        key: entry.key.as_str(),
+        topic: entry.topic().as_str(),
+        key: entry.key().as_str(),
         node: name_at(names, entry.dot.name),
         pid: entry.pid,
-        metadata: entry.metadata.as_str(),
+        metadata: entry.metadata().as_str(),
     };
     put_parts(text, line, &parts)
 }

@@ -32,7 +32,7 @@ pub(crate) fn none<'a, B: Allocator>(alloc: &'a B) -> Diff<&'a B>
     }
 }
 
-/// How the step of this inverse changed the online list of `node`, which must be as that step left it.
+/// How the step of this inverse changed the online list of `node`; `node` must be as it was right after that step.
 fn inverse_diff<'a, B: Allocator>(
     inverse: &Inverse<&'a B>,
     node: &Node<'a, B>,
@@ -137,7 +137,8 @@ fn put_change_rows<'a, B: Allocator>(
     put_given_rows(text, line, names, change, after, alloc)
 }
 
-/// Appends how the step of this inverse changed the online list of `node`, which must be as that step left it.
+/// Appends how the step of this inverse changed the online list of `node`; `node` must be as it was right after that
+/// step.
 fn put_inverse<'a, B: Allocator>(
     text: &mut String<&'a B>,
     line: &mut Line,

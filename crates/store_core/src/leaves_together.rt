@@ -21,8 +21,9 @@ use std::alloc::Allocator;
 
 impl<A: Allocator + Copy> DeltaStore<A> {
     /// Takes out the own entries at these dots, also from the delta, which gains these dots and a fresh one for each.
-    /// The fresh dots are seen, too. What was destroyed is returned, for `restore_each`. An `Err` changes nothing. The
-    /// call edits a copy of the delta's dots, so that nothing must be put back if memory is refused.
+    /// The fresh dots are seen, too. What was destroyed is returned; if each dot had an entry and none is named twice,
+    /// `restore_each` takes the call back with it. An `Err` changes nothing. The call edits a copy of the delta's dots,
+    /// so that nothing must be put back if memory is refused.
     pub fn leave_each(&mut self, dots: &[Dot]) -> Result<Vec<Left<A>, A>, Oom>
         requires own { AreOwn dots.now self.old }
         requires free { own_clock self.old + length dots.now ≤ 1000000000 }
@@ -49,9 +50,9 @@ impl<A: Allocator + Copy> DeltaStore<A> {
     }
 
     /// Takes back leaves that were made together: puts back the entries that left, and into the delta those that the
-    /// delta had. For each entry that left it removes one of the last own dots, also from the delta. The delta loses
-    /// the dots of these entries that the delta didn't have before the leaves. If memory is refused, `lefts` comes
-    /// back, and nothing changes. The call copies the delta's dots.
+    /// delta had. Removes the last own dots, as many as entries left, also from the delta. The delta loses the dots of
+    /// these entries that the delta didn't have before the leaves. If memory is refused, `lefts` comes back, and
+    /// nothing changes. The call copies the delta's dots.
     pub fn restore_each(&mut self, lefts: Vec<Left<A>, A>) -> Result<(), (Vec<Left<A>, A>, Oom)>
         requires { CanAllBeRestored lefts.items self.old }
         ensures ok { OnOk result (self.new ≡ with_lefts lefts.items self.old) }
@@ -177,7 +178,7 @@ fn take_lefts<A: Allocator>(
     lefts
 }
 
-/// Puts the entries that left back into `entries`, and those that the delta had into `delta_entries`. If memory is
+/// Puts back into `entries` the entries that left, and into `delta_entries` those that the delta had. If memory is
 /// refused, neither changes.
 fn put_lefts_back<A: Allocator + Copy>(
     entries: &mut EntrySet<A>,
@@ -198,8 +199,8 @@ fn put_lefts_back<A: Allocator + Copy>(
     Ok(())
 }
 
-/// A copy of the delta's `seen` without the dots of the name whose clocks follow `clock`, one for each of `lefts`, and
-/// without the dot of each entry that left, unless the delta had that dot before.
+/// A copy of `seen`, the delta's dots, without the name's next dots after `clock`, one for each of `lefts`, and without
+/// the dot of each entry that had left, unless the delta had that dot before.
 fn copy_without<A: Allocator + Copy>(
     seen: &DotSet<A>,
     name: u16,
@@ -217,7 +218,7 @@ fn copy_without<A: Allocator + Copy>(
     Ok(copy)
 }
 
-/// Takes the dot of each entry that left out of `seen`, the delta's dots, unless the delta had that dot before. If
+/// Removes from `seen`, the delta's dots, the dot of each entry that had left, unless the delta had that dot before. If
 /// memory is refused, some may be out.
 fn unsee_each<A: Allocator>(seen: &mut DotSet<A>, lefts: &[Left<A>]) -> Result<(), Oom>
     requires { All (λ left. IsValid left.entry.dot) lefts.now }
@@ -252,8 +253,8 @@ fn unsee_next<A: Allocator>(
     Ok(())
 }
 
-/// Inserts further handles of the entries that left into `entries`, and of those that the delta had into
-/// `delta_entries`. If memory is refused, some may be in.
+/// Inserts into `entries` further handles of the entries that left, and into `delta_entries` further handles of those
+/// that the delta had. If memory is refused, some may be in.
 fn put_lefts<A: Allocator + Copy>(
     entries: &mut EntrySet<A>,
     delta_entries: &mut EntrySet<A>,
@@ -273,7 +274,7 @@ fn put_lefts<A: Allocator + Copy>(
     Ok(())
 }
 
-/// Takes the entries that left out of `entries`, and those that the delta had out of `delta_entries`. It takes no
+/// Takes out of `entries` the entries that left, and out of `delta_entries` those that the delta had. It takes no
 /// memory.
 fn discard_lefts<A: Allocator>(
     entries: &mut EntrySet<A>,

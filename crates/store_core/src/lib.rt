@@ -7,7 +7,7 @@
 //!
 //! The modules in reading order: `delta_store`, the type; then its edits: `store_joins`, a join; `left_entry`, what a
 //! leave destroyed; `store_leaves`, a leave and an update; `leaves_together`, several leaves; `store_deliveries`, a
-//! delivery; `forgotten_name`, what was held of a name; `delta`, what is sent. `entry_moves` takes several entries out
+//! delivery; `forgotten_name`, forgetting a name; `delta`, what a node sends. `entry_moves` takes several entries out
 //! of a set and puts them back; `laws`, of deliveries.
 #![tactic(auto)]
 

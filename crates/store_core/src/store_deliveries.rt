@@ -94,7 +94,8 @@ impl<A: Allocator + Copy> DeltaStore<A> {
     {
         let alloc = self.entries.allocator();
         let seen = message.seen();
-        let _ = message.entries(); // the proof reads that their dots are seen
+        // form: the proof reads that their dots are seen
+        let _ = message.entries();
         // form: hands out what the set keeps
         seen.valid_law();
         let joined = dots_of(&joining, alloc)?;
@@ -109,7 +110,7 @@ impl<A: Allocator + Copy> DeltaStore<A> {
         })
     }
 
-    /// Takes a delivery back: the entries that joined go, those that left stand again, and the seen dots are those from
+    /// Takes a delivery back: the entries that joined go, those that left come back, and the seen dots are those from
     /// before the delivery. If memory is refused, `delivered` comes back, and nothing changes.
     pub fn undeliver(&mut self, delivered: Delivered<A>) -> Result<(), (Delivered<A>, Oom)>
         requires { CanBeUndelivered delivered self.old }

@@ -57,13 +57,10 @@ impl<A: Allocator + Copy> DeltaStore<A> {
     ) -> Result<Handle<A>, Oom>
         ensures { IfOk result (λ entry. entry ≡ entry_of (fresh self.now) (record { pid = pid; topic = topic.now; key = key.now; metadata = metadata.now })) }
     {
-        let entry = Entry {
-            dot: self.fresh(),
-            pid,
-            topic: topic.try_copy()?,
-            key: key.try_copy()?,
-            metadata: metadata.try_copy()?,
-        };
+        let topic = topic.try_copy()?;
+        let key = key.try_copy()?;
+        let metadata = metadata.try_copy()?;
+        let entry = Entry::new(self.fresh(), pid, topic, key, metadata);
         held(entry, self.entries.allocator())
     }
 }

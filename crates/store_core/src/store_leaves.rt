@@ -197,8 +197,8 @@ fn see<A: Allocator>(seen: &mut DotSet<A>, dot: Dot, fresh: Dot) -> Result<(), O
     Ok(())
 }
 
-/// Puts back the delta's entry, if the delta had one. Takes the dot of the entry that left out of the delta's `seen`,
-/// unless the delta had the dot before. If memory is refused, neither changes.
+/// Puts back the delta's entry, if the delta had one. Removes from the delta's `seen` the dot of the entry that had
+/// left, unless the delta had that dot before the leave. If memory is refused, neither changes.
 fn put_unsent_back<A: Allocator + Copy>(
     entries: &mut EntrySet<A>,
     seen: &mut DotSet<A>,
@@ -219,7 +219,8 @@ fn put_unsent_back<A: Allocator + Copy>(
     Ok(())
 }
 
-/// Takes the dot of the entry that left out of `seen`, the delta's dots, unless the delta had the dot before the leave.
+/// Removes from `seen`, the delta's dots, the dot of the entry that had left, unless the delta had that dot before the
+/// leave.
 pub(crate) fn unsee<A: Allocator>(seen: &mut DotSet<A>, left: &Left<A>) -> Result<(), Oom>
     requires { IsValid left.now.entry.dot }
     ensures ok { OnOk result (seen.new ≡ dots_before left.now.in_delta left.now.entry.dot seen.old) }

@@ -26,7 +26,8 @@ impl<A: Allocator + Copy> Replica<A> {
         ensures leads_back { IfOk result (λ change. ChangeLeadsBack (plain_change change) self.new self.old) }
         ensures err { OnErr result (self.new ≡ self.old) }
     {
-        let _ = message.entries(); // the proof reads that their dots are seen
+        // form: the proof reads that their dots are seen
+        let _ = message.entries();
         // form: hands out what the set keeps
         message.seen().valid_law();
         let names = self.others();

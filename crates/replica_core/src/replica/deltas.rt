@@ -20,7 +20,8 @@ impl<A: Allocator> Replica<A> {
         requires { CanBeDelta payload self.old }
         ensures { self.new ≡ with_delta payload self.old }
     {
-        let _ = payload.entries(); // the proof reads that their dots are seen
+        // form: the proof reads that their dots are seen
+        let _ = payload.entries();
         self.stores.give_delta(payload);
     }
 }

@@ -16,6 +16,3 @@ returns-in-None g c =
 
 pub entries-requires : goal.entries-requires
 entries-requires g c = grind (arith, common_steps)
-
-pub put_row-requires : goal.put_row-requires
-put_row-requires g c = search tt
