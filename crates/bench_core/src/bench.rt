@@ -298,7 +298,7 @@ impl<'a, B: Allocator> Bench<'a, B> {
             Ok(node) => node,
             Err(fault) => return self.refuse(actor, act, fault),
         };
-        if let Some(held_by) = self.journal.first_consequence(number) {
+        if let Some(held_by) = self.journal.first_consequence_at(node, number) {
             let fault = Fault::HasConsequence {
                 step: number,
                 held_by,

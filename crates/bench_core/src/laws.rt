@@ -35,7 +35,7 @@ pub fn chain_law()
     ensures { ChainLaw }
 {}
 
-/// Three laws of each machine that calls lead to from the opening. The undos of a step's future are all made, greatest
+/// Three laws of each machine to which calls lead from the opening. The undos of a step's future are all made, greatest
 /// number first. If undos and backs are all made, and the step doesn't remain after them, none of its future remains.
 /// Undos that are all made don't change a node if they undo none of its steps.
 pub fn unwind_law()

@@ -8,7 +8,7 @@ use thiserror::Error;
 /// Why no `Names` were made of texts. Places are counted from 1.
 #[derive(Clone, Copy, Debug, PartialEq, Eq, Error)]
 pub enum NamesFault {
-    /// There is no name, or there are more than 32.
+    /// There is no text, or there are more than 32.
     #[error("WrongCount")]
     WrongCount,
     /// The text at this place isn't a name.

@@ -76,6 +76,10 @@ abbrev pub find_number : List Kept → ℕ → Option Kept
 find_number [] n = None
 find_number (k ∷ ks) n = if k.number == n then Some k else find_number ks n
 
+-- step n remains, and is one of the node
+abbrev pub IsOfNode : List Kept → ℕ → ℕ → Type 0
+IsOfNode ks n node = (k : Kept) × (find_number ks n ≡ Some k) × (k.node ≡ node)
+
 abbrev pub first_number : (Kept → Bool) → List Kept → Option ℕ
 first_number test [] = None
 first_number test (k ∷ ks) = if test k then Some k.number else first_number test ks

@@ -1,6 +1,6 @@
 //! The future of a step: the step, its direct consequences, theirs, and so on. One pass over the steps, by rising
-//! number, gathers it. Each node has a bound, which says which of the node's steps are reached, which is to say found
-//! to follow so far: all above the bound, or none if the bound is `None`.
+//! number, gathers it. Each node has a bound: the node's steps with numbers above it are *reached*, which is to say
+//! found to be in the future so far. If the bound is `None`, no step of the node is reached yet.
 ghost use Rattle.std.specs.Prelude.{◌≡◌, ◌<◌, ◌-◌, ◌&&◌, replicate, nat_lt, IfOk, OnOk, OnErr, length, Some, None, [], option_map, option_copied};
 ghost use Rattle.std.specs.Prelude.{slice_set};
 ghost use Rattle.journal_core.specs.Journals.{AreInCausalOrder, find_number, first_number, NumbersRise};
@@ -32,8 +32,7 @@ fn lower_below<'a, B: Allocator>(held: &Held<'a, B>, bounds: &mut [Option<u64>])
     bounds[node] = Some(lower);
 }
 
-/// Notes the steps of these numbers as reached in `bounds`, each like `lower_below`. A number without a step is passed
-/// over.
+/// Calls `lower_below` for the step of each of these numbers, and passes over numbers whose steps don't remain.
 fn lower_all<'a, B: Allocator>(slots: &Slots<'a, B>, numbers: &[u64], bounds: &mut [Option<u64>])
     requires { AreKnown (length bounds.old) (kepts slots.now.steps) }
     ensures { bounds.new ≡ lowered (kepts slots.now.steps) numbers.now bounds.old }

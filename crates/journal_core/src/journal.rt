@@ -4,7 +4,7 @@ ghost use Rattle.std.specs.Prelude.{slice_get, length, Some, None};
 ghost use Rattle.std.specs.List.{Contains};
 ghost use Rattle.node_core.specs.Operations.{plain};
 ghost use Rattle.node_core.specs.Inverses.{plain_inverse};
-ghost use Rattle.journal_core.specs.Journals.{find_number, first_consequence, last_of, AreInCausalOrder};
+ghost use Rattle.journal_core.specs.Journals.{find_number, first_consequence, last_of, AreInCausalOrder, IsOfNode};
 ghost use Rattle.journal_core.specs.Futures.{IsFuture};
 ghost use Rattle.journal_core.specs.Holdings.{kepts, find_held, inverse_of, with_inverse, without_held, plain_room, room_for, AreAllHeld, IsLent, CanBeKept};
 
@@ -130,7 +130,15 @@ impl<'a, B: Allocator> Journal<'a, B> {
         let Some(kept) = self.find(number) else {
             return None;
         };
-        let causes = &self.causes[kept.node as usize];
+        self.first_consequence_at(kept.node, number)
+    }
+
+    /// Like `first_consequence`, for a step that remains and is one of `node`. It doesn't look for the step.
+    pub fn first_consequence_at(&self, node: u16, number: u64) -> Option<u64>
+        requires { IsOfNode (kepts self.now.steps) number node }
+        ensures { result ≡ first_consequence (kepts self.now.steps) number }
+    {
+        let causes = &self.causes[node as usize];
         least(causes.next(number), causes.first_delivery(number))
     }
 

@@ -17,7 +17,7 @@ take_back-requires g c =
     let step = c.in-Ok.ensures.remains in
     let found : find_number (kepts c.self.inside.journal.steps) c.args.number ≡ Some step.0 =
     ap (λ (m : Machine). find_number m.state.remaining c.args.number) c.self.view_is ∙ step.1 in
-    let free : first_consequence (kepts c.self.inside.journal.steps) c.args.number ≡ None = sym c.first_consequence.ensures
+    let free : first_consequence (kepts c.self.inside.journal.steps) c.args.number ≡ None = sym c.first_consequence_at.ensures
     ∙ c.in_default.is in
     let u = undo_at (config c.self.inside.names c.self.inside.limits) c.self.inside.history c.self.inside.cluster
     c.self.inside.journal.steps c.self.inside.meter.count c.args.number c.in-Ok.node step.0 c.self.invariant.0 found step.2 free in
@@ -30,7 +30,7 @@ invariant_of-self-else-is_err-2 g c =
     let step = c.in-Ok.ensures.remains in
     let found : find_number (kepts c.self.inside.journal.steps) c.args.number ≡ Some step.0 =
     ap (λ (m : Machine). find_number m.state.remaining c.args.number) c.self.view_is ∙ step.1 in
-    let free : first_consequence (kepts c.self.inside.journal.steps) c.args.number ≡ None = sym c.first_consequence.ensures
+    let free : first_consequence (kepts c.self.inside.journal.steps) c.args.number ≡ None = sym c.first_consequence_at.ensures
     ∙ c.in_default.is in
     let u = undo_at (config c.self.inside.names c.self.inside.limits) c.self.inside.history c.self.inside.cluster
     c.self.inside.journal.steps c.self.inside.meter.count c.args.number c.in-Ok.node step.0 c.self.invariant.0 found step.2 free in
@@ -59,7 +59,7 @@ returns g c =
     let step = c.in-Ok.ensures.remains in
     let found : find_number (kepts c.self.inside.journal.steps) c.args.number ≡ Some step.0 =
     ap (λ (m : Machine). find_number m.state.remaining c.args.number) c.self.view_is ∙ step.1 in
-    let free : first_consequence (kepts c.self.inside.journal.steps) c.args.number ≡ None = sym c.first_consequence.ensures
+    let free : first_consequence (kepts c.self.inside.journal.steps) c.args.number ≡ None = sym c.first_consequence_at.ensures
     ∙ c.in_default.is in
     let u = undo_at (config c.self.inside.names c.self.inside.limits) c.self.inside.history c.self.inside.cluster
     c.self.inside.journal.steps c.self.inside.meter.count c.args.number c.in-Ok.node step.0 c.self.invariant.0 found step.2 free in
@@ -84,7 +84,7 @@ refuse-requires-in-Some-clause-refused g c =
     let step = c.in-Ok.ensures.remains in
     let reached = subst (λ (m : Machine). IsReached (config_of m) m.state) c.self.view_is c.self.invariant.0.reached in
     let held : first_consequence c.args.self.now.state.remaining c.args.number ≡ Some c.in-Some.held_by =
-    ap (λ (m : Machine). first_consequence m.state.remaining c.args.number) (sym c.self.view_is) ∙ sym c.first_consequence.ensures
+    ap (λ (m : Machine). first_consequence m.state.remaining c.args.number) (sym c.self.view_is) ∙ sym c.first_consequence_at.ensures
     ∙ c.in-Some.is in
     c.requires ∙ undo_answers (config_of c.args.self.now) c.args.self.now.state c.args.number step.0 (Some c.in-Some.held_by) reached step.1
     held
@@ -94,7 +94,7 @@ returns-then-is_err g c =
     let step = c.in-Ok.ensures.remains in
     let reached = subst (λ (m : Machine). IsReached (config_of m) m.state) c.self.view_is c.self.invariant.0.reached in
     let free : first_consequence c.args.self.now.state.remaining c.args.number ≡ None =
-    ap (λ (m : Machine). first_consequence m.state.remaining c.args.number) (sym c.self.view_is) ∙ sym c.first_consequence.ensures
+    ap (λ (m : Machine). first_consequence m.state.remaining c.args.number) (sym c.self.view_is) ∙ sym c.first_consequence_at.ensures
     ∙ c.in_default.is in
     let stays =
     was_refused (c.record.new.self ≡ c.self.inside.history) c.record.result (sym c.is_err.ensures.value ∙ c.if-is_err.true) c.record.ensures.err in
@@ -122,7 +122,7 @@ returns-then-is_err-2 g c =
     let step = c.in-Ok.ensures.remains in
     let reached = subst (λ (m : Machine). IsReached (config_of m) m.state) c.self.view_is c.self.invariant.0.reached in
     let free : first_consequence c.args.self.now.state.remaining c.args.number ≡ None =
-    ap (λ (m : Machine). first_consequence m.state.remaining c.args.number) (sym c.self.view_is) ∙ sym c.first_consequence.ensures
+    ap (λ (m : Machine). first_consequence m.state.remaining c.args.number) (sym c.self.view_is) ∙ sym c.first_consequence_at.ensures
     ∙ c.in_default.is in
     let same =
     was_refused (c.take_back.new.journal ≡ c.self.inside.journal) c.take_back.result (sym c.is_err-2.ensures.value ∙ c.if-is_err-2.true) c.take_back.ensures.err_journal in
