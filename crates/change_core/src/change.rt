@@ -91,7 +91,8 @@ fn may_pass<A: Allocator>(passed: &[Kept<A>], kept: &Kept<A>) -> bool
     kept.step.sends() && !has_send(passed, kept.node)
 }
 
-/// Whether this change can be made to the run of these steps. The changed run may still be impossible.
+/// Whether this change can be made to the run of these steps; false if one of its places has no step. The changed run
+/// may still be impossible.
 #[tactic(auto, unfolding(crate::specs::Changes::is_change))]
 pub fn is_change<A: Allocator>(steps: &[Kept<A>], change: Change) -> bool
     ensures { result ≡ is_change steps.now change }

@@ -60,7 +60,7 @@ fn put_pieces<W: Allocator, A: Allocator>(
 }
 
 /// The marks of the steps with this change. Each node's marks stand in the order in which the node then takes its
-/// steps.
+/// steps. Both places of the change must be places of steps.
 #[tactic(auto, unfolding(crate::specs::Marked::changed_marks))]
 pub(crate) fn changed_marks<W: Allocator, A: Allocator>(
     steps: &[Kept<W>],
@@ -131,7 +131,7 @@ pub(crate) fn all_places<W: Allocator, A: Allocator>(
 }
 
 /// The run with this change, as places of steps, in the order that `order` finds; `None` if each order delivers some
-/// message before it is sent.
+/// message before it is sent. Both places of the change must be places of steps.
 pub(crate) fn places_with<W: Allocator, A: Allocator + Copy>(
     steps: &[Kept<W>],
     change: Change,

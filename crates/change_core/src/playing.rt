@@ -17,9 +17,9 @@ use payload_core::{Oom, Word};
 use std::alloc::Allocator;
 use std::marker::Model;
 
-/// `find_known` plays up to this many steps to see whether a run meets the second known run that it tries, and one step
-/// for the first. Most runs meet one of the two at once; most of those that meet none within a few dozen steps never
-/// do.
+/// `find_known` tries the two known runs one after the other. To see whether a run meets the first, it plays one step
+/// of their common end, and for the second up to this many. Most runs meet one of the two at once; most of those that
+/// meet none within a few dozen steps never do.
 const FAR: usize = 64;
 
 /// A run whose end is known: the places of the run's steps among the recorded ones, and the rows asked for at the end.
@@ -225,8 +225,8 @@ impl<'a, B: Allocator> Search<'a, B> {
         by_recorded < by_last || (by_recorded == by_last && self.prefers_last)
     }
 
-    /// Looks for a known run with the same end as `run`, which is given by the places of its steps: true stands for the
-    /// last run, false for the recorded one. `None` if neither was found to have this end, though one may have it.
+    /// Looks for a known run that ends in the same cluster as `run`. Gives true for the last run, false for the recorded
+    /// one, and `None` if neither was found to end so, though one may. `run` is given by the places of its steps.
     /// Notes in `prefers_last` which of the two the next run is expected to end like.
     fn find_known(&mut self, steps: &[Kept<&'a B>], run: &[usize]) -> Result<Option<bool>, Oom>
         requires { AreWalks steps.now self.old }
@@ -299,8 +299,9 @@ impl<'a, B: Allocator> Search<'a, B> {
     }
 
     /// The rows with this topic and key at the node, at the end of the run with this change; `None` if that run isn't
-    /// possible. A possible run becomes the last one. After a refused request for memory the search can't be used
-    /// again.
+    /// possible. `new` must have been given the same steps, and the rows with this topic and key at this node. Both
+    /// places of the change must be places of steps. A possible run becomes the last one. After a refused request for
+    /// memory the search can't be used again.
     pub fn rows_after(
         &mut self,
         steps: &[Kept<&'a B>],

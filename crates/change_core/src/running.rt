@@ -12,7 +12,7 @@ use payload_core::Oom;
 use std::alloc::Allocator;
 
 /// The run of these steps with a change, in the order that `order` finds; `None` if each order delivers some message
-/// before it is sent.
+/// before it is sent. Both places of the change must be places of steps.
 fn run_of<'a, B: Allocator>(
     steps: &[Kept<&'a B>],
     change: Change,
@@ -34,7 +34,7 @@ fn run_of<'a, B: Allocator>(
 
 /// The remaining steps with a change: each node's in the order that the change gives them, and those of different nodes
 /// as near to the recorded order as messages allow (see `order` of `order_core`). `None` if each order delivers some
-/// message before it is sent.
+/// message before it is sent. Both places of the change must be places of remaining steps.
 pub fn run_with<'a, B: Allocator>(
     bench: &Bench<'a, B>,
     change: Change,

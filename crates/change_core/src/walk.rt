@@ -149,7 +149,7 @@ impl<'a, B: Allocator> Walk<'a, B> {
 
     /// Turns the walk into that of the steps at `places`, from empty nodes on, and says whether all were accepted; if
     /// not, the walk ends before the step that was refused. The steps that the walk and `places` have in common at the
-    /// beginning stay, and the walk's other steps are taken back first.
+    /// beginning stay, and the walk's other steps are taken back first. All steps of the walk must be of `steps`.
     pub(crate) fn go_to(&mut self, steps: &[Kept<&'a B>], places: &[usize]) -> Result<bool, Oom>
         requires { IsWalkOf steps.now self.old }
         ensures { IfOk result (GoesTo steps.now places.now self.old self.new) }

@@ -10,7 +10,8 @@ pub enum ExploreFault {
     TooManyStates { outcomes: usize },
     /// The joins and updates make more entries than a node may hold, so some order might be refused (`EntriesFull`).
     MayFill,
-    /// The remaining steps and the deliveries that may come a second time are more than 3,000 together.
+    /// The remaining steps and the deliveries that may come a second time (`again` of `explore`) are more than 3,000
+    /// together.
     TooManySteps,
     OutOfMemory,
 }
@@ -42,7 +43,8 @@ impl From<Oom> for ExploreFault {
     }
 }
 
-/// The fault of an exploration whose walk ended early, for the same reason and with the same number of outcomes.
+/// The fault of an exploration whose walk ended early with `stop`: it tells the same reason and the same number of
+/// outcomes as `stop`.
 pub(crate) fn fault_of(stop: Stop) -> ExploreFault
     ensures fills_not { result ≢ ExploreFault.MayFill }
     ensures few_steps { result ≢ ExploreFault.TooManySteps }

@@ -90,8 +90,8 @@ fn parts_of<'a, B: Allocator>(
     Ok(Parts { turns, ranks, cone })
 }
 
-/// The plan for these steps. They must make no more entries than a node may hold. `count` is the number of nodes;
-/// `lost`, `again` and `most` are those of `explore`.
+/// The plan for these steps. They must make no more entries than a node may hold, and the node that the question is
+/// about, if it names one, must be one of the `count` nodes. `lost`, `again` and `most` are those of `explore`.
 fn plan_of<'a, B: Allocator>(
     steps: Steps<&'a B>,
     count: u16,
@@ -249,9 +249,10 @@ fn explore_plan<'a, B: Allocator, W: Watch<Walked>>(
 }
 
 /// Finds all outcomes of what the network could have made of the steps that remain, with up to `lost` deliveries
-/// missing and up to `again` that come a second time; the outcome of the recorded run comes first. The walk may keep
-/// `most` states (`TooManyStates` if it needs more), and tells `watch` how far it has come. Before the walk begins,
-/// `explore` looks for `MayFill` first and then for `TooManySteps`.
+/// missing and up to `again` that come a second time; the outcome of the recorded run comes first. The question's node
+/// must be there (see `is_there`). The walk may keep `most` states (`TooManyStates` if it needs more), and tells
+/// `watch` how far it has come. Before the walk begins, `explore` looks for `MayFill` first and then for
+/// `TooManySteps`.
 pub fn explore<'a, B: Allocator, W: Watch<Walked>>(
     bench: &Bench<'a, B>,
     question: &Question<&'a B>,

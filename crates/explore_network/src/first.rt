@@ -28,7 +28,8 @@ fn is_alone<'a, B: Allocator>(
     are_spent(plan.turns(), counts, plan.again(), kept.node)
 }
 
-/// True only if the walk misses no outcome when it goes on with this step alone, provided that the step may come next.
+/// True only if the walk misses no outcome when it goes on with this step alone, provided that the step may come next
+/// and is accepted.
 fn goes_first<'a, B: Allocator>(
     plan: &Plan<'a, B>,
     cluster: &Cluster<'a, B>,

@@ -8,7 +8,7 @@ use std::marker::Model;
 
 pub(crate) type Steps<A> = Vec<Kept<A>, A>;
 
-/// What all runs of the network have in common, with what `parts_of` worked out of it: turns, ranks and cone.
+/// What all runs of the network have in common, with what `parts_of` worked out from it: turns, ranks and cone.
 #[derive(Drop)]
 pub(crate) struct Plan<'a, B: Allocator> {
     pub(crate) limits: NodeLimits,

@@ -8,7 +8,7 @@ ghost use Rattle.network_rules.specs.Tables.{AreAllAsked, IsClosed};
 use crate::turns::sent;
 use bench_core::Kept;
 use dots_core::{Dot, NameSet};
-use network_rules::{Cone, Rank, Rows, Turn, all_names, cone_of, delivery, said};
+use network_rules::{Cone, Rank, Rows, Turn, all_names, cone_of, delivery, recorded, said};
 use node_core::Oom;
 use std::alloc::Allocator;
 
@@ -99,8 +99,8 @@ fn widen<A: Allocator>(
     }
 }
 
-/// Makes one round over `matters` and `carries`: `widen` for each step, from the last to the first. Says whether any
-/// name is new.
+/// Makes one round over `matters` and `carries`: `widen` for each step that has a rank, from the last to the first.
+/// Says whether any name is new.
 fn widen_all<A: Allocator>(
     matters: &mut [NameSet],
     carries: &mut [NameSet],
@@ -118,7 +118,7 @@ fn widen_all<A: Allocator>(
     is_news
 }
 
-/// Makes rounds (`widen_all`) until one finds no new name, but at most 2,048.
+/// Makes rounds (`widen_all`) until one finds no new name, but at most 2,048. If these are too few, `cone_of` sees it.
 fn close<A: Allocator>(
     matters: &mut [NameSet],
     carries: &mut [NameSet],
@@ -182,9 +182,9 @@ fn rows_of_nodes<'a, B: Allocator>(
 ) -> Result<Rows<&'a B>, Oom> {
     let mut rows = Vec::new(alloc);
     for node in 0..count {
-        let own = turns.get(node as usize).map_or(0, |turn| turn.recorded);
         // form: saturating spares a requirement
-        rows.push(row(matters, index(width, node, 0), own.saturating_add(1), alloc)?)?;
+        let own = recorded(turns, node).saturating_add(1);
+        rows.push(row(matters, index(width, node, 0), own, alloc)?)?;
     }
     Ok(rows)
 }

@@ -52,7 +52,7 @@ fn same_replica<'a, B: Allocator>(one: Option<&Node<'a, B>>, other: Option<&Node
     }
 }
 
-/// Whether the nodes of two clusters, which have at most 32 each, have the same replicas, node by node.
+/// Whether two clusters of at most 32 nodes each have the same replicas, node by node.
 fn same_replicas<'a, B: Allocator>(one: &Cluster<'a, B>, other: &Cluster<'a, B>) -> bool
     requires few { length one.now ≤ 32 }
     requires few_too { length other.now ≤ 32 }

@@ -1,5 +1,6 @@
-//! `Walk`: the walk over all runs of the network, depth first. In its functions `counts` says how many steps of each
-//! turn came, and at most `left` steps can follow.
+//! `Walk`: a depth-first walk over runs of the network that finds all their outcomes. It leaves out runs whose outcomes
+//! other runs give (see `first` and `settled`). In its functions `counts` says how many steps of each turn came, and at
+//! most `left` steps can follow.
 ghost use Rattle.std.specs.Prelude.{◌≡◌, ◌<◌, ◌≤◌, ◌+◌, ◌^◌, ◌++◌, ◌∷◌, [], ℕ, List, IfErr, IfOk, OnOk, Ok, Some, length, slice_get, true};
 ghost use Rattle.replica_core.specs.Limits.{AreNodeLimits};
 ghost use Rattle.bench_core.specs.Clusters.{Cluster as PlainCluster};
@@ -333,8 +334,8 @@ fn tell_once<'a, B: Allocator, W: Watch<Walked>>(
     Ok(())
 }
 
-/// Adds the outcomes of all runs that go on from where the walk stands, and leaves the cluster and the path unchanged;
-/// after a `Stop` cluster and path are those at which the walk ended. Tells `watch` how far the walk has come.
+/// Adds the outcomes of all runs that begin with the walk's path, and leaves the cluster and the path unchanged; after
+/// a `Stop` cluster and path are those at which the walk ended. Tells `watch` how far the walk has come.
 #[cycle(visit)]
 pub(crate) fn visit<'a, B: Allocator, W: Watch<Walked>>(
     tour: &Tour<'a, '_, B>,

@@ -41,8 +41,8 @@ fn explored<'a, B: Allocator, W: Watch<Walked>>(
     }
 }
 
-/// What the network could have made of the remaining steps, as a text: each outcome, with a run that leads there. Looks
-/// for `NoSuchNode` first and then for `NoWord`, both before the walk.
+/// What the network could have made of the remaining steps, as a text: each outcome, with a run that leads there.
+/// Looks for `NoSuchNode`, `NoWord`, `MayFill` and `TooManySteps`, in this order, before the walk begins.
 pub fn explore_asked<'a, B: Allocator, W: Watch<Walked>>(
     bench: &Bench<'a, B>,
     alloc: &'a B,

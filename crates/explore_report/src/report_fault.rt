@@ -21,7 +21,7 @@ pub enum ReportFault {
     /// The joins and updates make more entries than a node may hold, so some order might be refused (`EntriesFull`).
     #[error("MayFill")]
     MayFill,
-    /// The remaining steps and the deliveries that may come a second time are more than 3,000 together.
+    /// The remaining steps and the deliveries that may come a second time (`again`) are more than 3,000 together.
     #[error("TooManySteps, more than 3000")]
     TooManySteps,
     /// There are `outcomes` outcomes, and none has the number that was asked for.

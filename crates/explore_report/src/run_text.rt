@@ -27,7 +27,7 @@ fn put_step<'a, A: Allocator, N: Allocator, B: Allocator>(
     }
 }
 
-/// Appends the line of the step at each of `places`, after `indent`.
+/// Appends the line of the step at each of `places`, after `indent`; nothing for a place without a step.
 fn put_steps<'a, A: Allocator, N: Allocator, B: Allocator>(
     journal: &Journal<'a, B>,
     text: &mut String<A>,

@@ -13,9 +13,10 @@ ghost use Rattle.network_core.specs.Rows.{OnlineRowsLaw, RowsLaw};
 ghost use Rattle.network_core.specs.Seen.{SameReplicaLaw, SeenLaw};
 ghost use Rattle.network_core.specs.Settling.{LengthLaw, NextDeliveryLaw, QuietLaw, SettleLaw};
 
-/// Unless a step is refused as `EntriesFull`, a delivery at a node can be exchanged with another step of the node, and
-/// the node's replica becomes the same either way. The other step is a join, a leave, a leave all, an update, a
-/// broadcast, a request, or an up or a down of a name that the node knows.
+/// Unless a step is refused as `EntriesFull`, a delivery at a node can be exchanged with another step of the node: the
+/// node's replica becomes the same either way. The other step is a join, a leave, a leave all, an update, a broadcast,
+/// a request, or an up or a down of a name that the node knows. The delivery changes neither whether a join, a leave, a
+/// leave all or an update is refused, nor what a broadcast or a request sends.
 pub fn own_law()
     ensures { OwnLaw }
 {}
@@ -85,7 +86,7 @@ pub fn cone_law()
 
 /// If each node took the same steps other than deliveries in two runs, and the dots that matter stand the same at both
 /// ends, the clusters there are alike.
-pub fn keys_law()
+pub fn stand_alike_law()
     ensures { StandAlikeLaw }
 {}
 

@@ -212,7 +212,7 @@ fn asks(asked: Option<u16>, number: u16) -> bool
 
 /// How many steps of the turn at `place` were recorded; 0 if there is no such turn. The turn of a node's own steps is
 /// at the place with the node's number.
-fn recorded(turns: &[Turn], place: u16) -> usize
+pub fn recorded(turns: &[Turn], place: u16) -> usize
     ensures { (t : PlainTurn) → slice_get turns.now place ≡ Some t → result ≡ t.recorded }
 {
     match turns.get(place as usize) {

@@ -57,8 +57,8 @@ fn knows<'a, B: Allocator>(cluster: &Cluster<'a, B>, node: u16, name: u16) -> bo
     }
 }
 
-/// Whether `message` brings no news of `dot` to the node `own`: the dot is the node's own, or has a name that isn't
-/// among `names`, or isn't in the message.
+/// Whether `message` brings no news of `dot` to the node `own`: the dot is the node's own, or isn't in the message, or
+/// has a name that isn't among `names`, the names whose dots matter at the node.
 fn is_no_news<A: Allocator>(dot: Dot, message: &Payload<A>, names: NameSet, own: u16) -> bool
     ensures { IsTrue result → (dot.name == own) ≡ false → contains names dot.name ≡ true → contains message.now.seen dot ≡ false }
 {

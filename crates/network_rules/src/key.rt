@@ -16,8 +16,8 @@ use node_core::Oom;
 use payload_core::{EntrySet, Payload};
 use std::alloc::Allocator;
 
-/// How many steps of each turn (see `Turn`) came, and then how the dots that matter stand, first at nodes and then in
-/// the messages of extracts and answers.
+/// How many steps of each turn (see `Turn`) came, and then how the dots that matter stand, first at nodes (but for each
+/// node's own dots) and then in the messages of the extracts and answers that came.
 pub type Key<A> = Vec<usize, A>;
 
 /// The standing of a dot: 0 unseen, 1 live, 2 gone.
@@ -146,7 +146,7 @@ fn sends_held<A: Allocator>(step: &Step<A>) -> bool
     }
 }
 
-/// Appends how the dots that matter stand at each of the first `count` nodes.
+/// Appends how the dots that matter stand at each of the first `count` nodes; a node's own dots are left out.
 fn put_nodes<'a, B: Allocator>(
     key: &mut Key<&'a B>,
     cone: &Cone<'a, B>,

@@ -16,7 +16,7 @@ mod next;
 mod path;
 mod turn;
 
-pub use cone::{Cone, Rows, cone_of, said};
+pub use cone::{Cone, Rows, cone_of, recorded, said};
 pub use first::{is_easy, is_idle};
 pub use key::{Key, key_of};
 pub use names::all_names;

@@ -14,7 +14,7 @@ pub fn order_law()
 {}
 
 /// If there is an order of the nodes' steps that keeps each node's own order and in which no message comes before it is
-/// sent, `order` finds one. If each step is accepted in any such order, each is accepted in the order found, and both
+/// sent, `order` finds one. If each step is accepted in some such order, each is accepted in the order found, and both
 /// orders end in the same cluster.
 pub fn found_law()
     ensures order_of { OrderOfLaw }

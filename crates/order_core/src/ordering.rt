@@ -31,7 +31,7 @@ fn count_nodes(marks: &[Mark]) -> usize
     count
 }
 
-/// The place of the node's first step at or behind `from`; the number of all steps if there is none.
+/// The place of the node's first step at or after `from`; the number of all steps if there is none.
 fn place_from(marks: &[Mark], node: usize, from: usize) -> usize
     requires { from ≤ length marks.now }
     ensures { result ≡ first_of node from (drop from marks.now) }

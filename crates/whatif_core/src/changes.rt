@@ -9,8 +9,8 @@ use std::alloc::Allocator;
 
 type Changes<A> = Vec<Change, A>;
 
-/// How many distances from `place` a change of this kind can have in a run of `count` steps: back to the first step for
-/// `Before`, on to the last step for the other kinds. Distance 0 is the step's own place.
+/// How many distances from `place` to try for a change of this kind in a run of `count` steps: back to the first step
+/// for `Before`, on to the last step for the other kinds. Distance 0 is the step's own place.
 fn reach(count: usize, kind: Kind, place: usize) -> usize
     requires { place < count }
     ensures { result ≡ reach count kind place }
@@ -21,8 +21,8 @@ fn reach(count: usize, kind: Kind, place: usize) -> usize
     }
 }
 
-/// The change of this kind of the step at `place`. Its `beside` is the place at this distance: back from `place` for
-/// `Before`, and on from it for the other kinds.
+/// The change of this kind of the step at `place`. Its `beside` is the place at this distance, which must be below
+/// `reach`: back from `place` for `Before`, and on from it for the other kinds.
 fn change_at(count: usize, kind: Kind, place: usize, distance: usize) -> Change
     requires place { place < count }
     requires distance { distance < reach count kind place }

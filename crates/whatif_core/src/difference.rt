@@ -134,7 +134,7 @@ impl<A: Allocator + Copy> Tally<A> {
     }
 
     /// Counts a change that leads to `rows`, and adds it to the differences if `rows` isn't the same as `before`.
-    /// `None` stands for a change that isn't possible, which isn't counted.
+    /// `None` stands for a change that isn't possible, which isn't counted. Both counts must be below `usize::MAX`.
     pub(crate) fn count(
         &mut self,
         before: &[OnlineRow<A>],

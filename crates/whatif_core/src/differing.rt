@@ -34,7 +34,8 @@ pub struct Differences<A: Allocator> {
 }
 
 /// Lets `search` find the rows to which each change in `tried` leads, and counts the change in the tally by these rows.
-/// Tells `watch` after each change how many were tried.
+/// The tally must be new, and `tried` must be all changes of `steps`, the bench's remaining steps. Tells `watch` after
+/// each change how many were tried.
 fn count_all<'a, B: Allocator, W: Watch<Tried>>(
     tally: &mut Tally<&'a B>,
     search: &mut Search<'a, B>,
@@ -69,8 +70,9 @@ fn count_all<'a, B: Allocator, W: Watch<Tried>>(
     Ok(())
 }
 
-/// Tries the changes in `tried` in turn on a new search, and gives how many are possible, how many make a difference to
-/// the rows `before`, and the differences. Tells `watch` after each change how many were tried.
+/// Tries the changes in `tried`, which must be all those of the bench's remaining steps, in turn on a new search. Gives
+/// how many are possible, how many make a difference to the rows `before`, and the differences. Tells `watch` after
+/// each change how many were tried.
 fn tally_of<'a, B: Allocator, W: Watch<Tried>>(
     bench: &Bench<'a, B>,
     steps: &[Kept<&'a B>],
@@ -114,7 +116,7 @@ fn tally_of<'a, B: Allocator, W: Watch<Tried>>(
 
 /// Finds the changes of the remaining steps that make a difference to the rows with this topic and key at the node,
 /// with the rows to which they lead. A change is possible if the changed steps have an order in which no message comes
-/// before it is sent, and in which each step is accepted. Tells `watch` how many changes were tried.
+/// before it is sent, and in which each step is accepted. Tells `watch` after each change how many were tried.
 pub fn whatif<'a, B: Allocator, W: Watch<Tried>>(
     bench: &Bench<'a, B>,
     node: u16,

@@ -26,7 +26,8 @@ pub struct Question<'q> {
 
 /// What would have made a difference, as a text: each single change after which the node lists other rows of the topic
 /// and key, with the rows that go and come. Changes of the same step and kind with the same rows are told together.
-/// `NoSuchNode` if no node has the name, `NoWord` if the topic or the key isn't a word.
+/// `NoSuchNode` if no node has the name, then `NoWord` if the topic or the key isn't a word. Tells `watch` after each
+/// change how many were tried.
 pub fn whatif_asked<'a, B: Allocator, W: Watch<Tried>>(
     bench: &Bench<'a, B>,
     alloc: &'a B,
@@ -79,8 +80,9 @@ fn script_with<'a, B: Allocator>(
     }
 }
 
-/// The run with the change that has this number in the text, as a script that plays the run; of changes told together,
-/// the nearest. `NoSuchNode` and `NoWord` as in `whatif_asked`; then `NoSuchChange` if no change has the number.
+/// The run with the change that has this number in the text of `whatif_asked`, as a script that plays the run; of
+/// changes told together, the nearest. `NoSuchNode` and `NoWord` as in `whatif_asked`; then `NoSuchChange` if no change
+/// has the number. Tells `watch` after each change how many were tried.
 pub fn run_with_change<'a, B: Allocator, W: Watch<Tried>>(
     bench: &Bench<'a, B>,
     alloc: &'a B,

@@ -81,7 +81,8 @@ fn put_differences<'a, A: Allocator, N: Allocator, B: Allocator>(
     Ok(())
 }
 
-/// Appends the whole text: the head, the rows before, and each difference.
+/// Appends the whole text: the head, the rows of the recorded run, and each difference. `found` must be what `whatif`
+/// finds for this node, topic and key.
 fn put_found<'a, A: Allocator, B: Allocator>(
     bench: &Bench<'a, B>,
     text: &mut String<A>,
@@ -110,7 +111,8 @@ fn put_found<'a, A: Allocator, B: Allocator>(
     )
 }
 
-/// What would have made a difference to the rows with this topic and key at the node, as a text.
+/// What would have made a difference to the rows with this topic and key at the node, as a text. Tells `watch` after
+/// each change how many were tried.
 pub(crate) fn tell<'a, B: Allocator, W: Watch<Tried>>(
     bench: &Bench<'a, B>,
     node: u16,
