@@ -80,7 +80,7 @@ pub enum Subcommand<'w> {
     },
 }
 
-/// What the program prints of the bench once the run is over.
+/// What `play`, `race`, `load` or `import` prints once it is done. Other subcommands print the same in each form.
 #[derive(Clone, Copy, Debug, PartialEq, Eq)]
 pub enum Form {
     /// The report.

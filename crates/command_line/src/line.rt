@@ -139,7 +139,8 @@ fn form_of<'a>(matches: &ArgMatches<'a>, usual: Form) -> Option<Form>
     }
 }
 
-/// The number that an option gives: `Some(None)` if it isn't given, and `None` if its value isn't a number.
+/// The number that an option gives: `Some(None)` if the option isn't given, and `None` if its value can't be read as a
+/// `u64`.
 fn number_of<'a>(matches: &ArgMatches<'a>, option: &str) -> Option<Option<u64>>
     ensures some { IfSome result (IsNumber (first_value (found_of matches.now) option.now)) }
     ensures none { IfNone result ((number : Option ℕ) → ¬ IsNumber (first_value (found_of matches.now) option.now) number) }
@@ -214,7 +215,7 @@ fn can_print(command: Subcommand<'_>, form: Form) -> bool
     }
 }
 
-/// The text to print if the subcommand can't print in the form that is named.
+/// The text to print if the value of `--as` isn't a form in which the subcommand can print.
 fn forms_of(command: Subcommand<'_>) -> &'static str {
     match command {
         Subcommand::Import { check: true, .. } => "import --check prints what it found alone",

@@ -75,12 +75,12 @@ fn with_command<'a>(line: Built<'a>, subcommand: Built<'a>) -> Built<'a>
     ensures { (app other : App) → IfOk line.entry (HasShape app) → IfOk subcommand.entry (HasShape other)
         → IfOk result (HasShape (with_subcommand app other.top)) }
 {
-    with_built(line, subcommand?)
+    add_command(line, subcommand?)
 }
 
-/// Like `with_command`, but for a subcommand that was built without being refused memory.
+/// Like `with_command`, for a subcommand that was built without a fault.
 // form: one way out in each of the two
-fn with_built<'a>(line: Built<'a>, subcommand: Command<'a>) -> Built<'a>
+fn add_command<'a>(line: Built<'a>, subcommand: Command<'a>) -> Built<'a>
     ensures { (app other : App) → IfOk line.entry (HasShape app) → HasShape other subcommand.entry → IfOk result (HasShape (with_subcommand app other.top)) }
 {
     line?.subcommand(subcommand)

@@ -8,7 +8,7 @@ use crate::Oom;
 use crate::logged::Logged;
 use std::alloc::Allocator;
 
-/// The place of the node's first event at or behind `from`; the number of all events if there is none.
+/// The place of the node's first event at or after `from`; the number of all events if there is none.
 fn first_of(events: &[Logged], node: u16, from: usize) -> usize
     requires { from ≤ length events.now }
     ensures { IsFirstOf events.now node from result }

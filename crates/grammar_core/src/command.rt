@@ -87,7 +87,7 @@ fn actor_line<A: Allocator + Copy>(
     verb_line(alloc, cast.nodes(), actor, verb, args)
 }
 
-/// Reads a line `journal`; `words` are the words behind that one. `WrongCount` if there are any.
+/// Reads a line `journal`; `words` are the words behind `journal`. `WrongCount` if there are any.
 #[tactic(auto, unfolding(crate::specs::Grammar::journal_of))]
 fn journal_of<A: Allocator>(words: &[&str]) -> Result<Command<A>, FaultKind>
     ensures { Meets plain_command result (journal_of (map (λ word. word.now) words.now)) }

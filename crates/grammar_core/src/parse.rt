@@ -80,7 +80,8 @@ fn read_words<A: Allocator + Copy>(
     read_significant(alloc, reading, number, first, rest)
 }
 
-/// Reads `line`, the line with this number, into `reading`. A fault leaves `reading` unchanged.
+/// Reads `line`, the line with this number, into `reading`. `TooLong` if the line has more than `LONGEST_LINE` bytes,
+/// then `NotText`, then the fault of its words. A fault leaves `reading` unchanged.
 #[tactic(auto, unfolding(crate::specs::Grammar::with_line))]
 pub fn read_line<A: Allocator + Copy>(
     alloc: A,
@@ -99,8 +100,8 @@ pub fn read_line<A: Allocator + Copy>(
     read_words(alloc, reading, number, &words)
 }
 
-/// The script that the bytes spell, or its first fault. If memory is refused while a line is read, the fault is
-/// `OutOfMemory` at line 0.
+/// The script that the bytes spell, or its first fault. At line 0 stand `TooLong` for more than `LONGEST_SCRIPT` bytes,
+/// which comes before all other faults, `NoNodes` if each line is a comment or has no words, and `OutOfMemory`.
 #[tactic(auto, unfolding(crate::specs::Grammar::script_of, crate::specs::Grammar::with_lines))]
 pub fn parse_script<A: Allocator + Copy>(alloc: A, bytes: &[u8]) -> Result<Script<A>, ScriptFault>
     ensures gives { GivesScript plain_script result (script_of bytes.now) }

@@ -153,15 +153,15 @@ abbrev pub hint_at : List ℕ → ℕ → Option (List ℕ) → FaultKind → Op
 hint_at bytes number None kind = None
 hint_at bytes number (Some line) kind = hint_of_line number (take (number - 1) (lines_of bytes)) line kind
 
-abbrev pub wants_memory : FaultKind → Bool
-wants_memory OutOfMemory = true
-wants_memory _ = false
+abbrev pub is_out_of_memory : FaultKind → Bool
+is_out_of_memory OutOfMemory = true
+is_out_of_memory _ = false
 
 -- the hint for the first fault of a script, memory apart: it is no script, as it begins with a brace; or what is wrong with the
 -- line
 unfoldable pub hint_of : List ℕ → ScriptFault → Option Hint
 hint_of bytes fault =
-    if wants_memory fault.kind then None
+    if is_out_of_memory fault.kind then None
     else (if begins_object bytes then Some (Plain (codes "the input begins with `{`: `load` takes sessions, and `import` events"))
     else (if fault.line == 0 then hint_of_whole bytes fault.kind
     else hint_at bytes fault.line (slice_get (lines_of bytes) (fault.line - 1)) fault.kind))

@@ -139,8 +139,8 @@ fn told_hint(heap: Global, line: u64, kind: FaultKind) -> Result<Option<Vec<u8>>
     }
 }
 
-/// The hint for `bytes`, events that were refused with this fault, as text with a line feed; `None` if the fault has
-/// no hint.
+/// The hint for `bytes`, events that were refused with this fault, as text with a line feed. `None` for `OutOfMemory`,
+/// and where `event_hint_at` (for `BadEvent`) or `json_hint_at` (for `NotJson`) gives none.
 pub fn import_hint(heap: Global, bytes: &[u8], fault: ImportFault) -> Result<Option<Vec<u8>>, Oom>
     ensures { IfOk result (λ hint. IsImportHint bytes.now fault (option_map (λ it. it.items) hint)) }
 {

@@ -2,7 +2,7 @@
 ghost use Rattle.std.specs.Prelude.{◌≡◌, IfOk, option_map, take, slice_get, ◌-◌};
 ghost use Rattle.grammar_core.specs.Words.{lines_of};
 ghost use Rattle.hint_core.specs.Hints.{plain_hint, line_of};
-ghost use Rattle.hint_core.specs.Choices.{hint_of_line, hint_of_whole, hint_at, hint_of, hint_line, wants_memory};
+ghost use Rattle.hint_core.specs.Choices.{hint_of_line, hint_of_whole, hint_at, hint_of, hint_line, is_out_of_memory};
 ghost use Rattle.hint_core.specs.Sessions.{session_hint};
 
 use crate::Oom;
@@ -15,8 +15,8 @@ use crate::words_hint::{bad_number, no_nodes, not_allowed, unknown_word, wrong_c
 use grammar_core::{FaultKind, ScriptFault};
 use std::alloc::Allocator;
 
-/// The hint for the line `line` with the fault `kind`; `None` if that fault has no hint. `number` is the number of the
-/// line, which stands behind the first `count` lines of `bytes`.
+/// The hint for the line `line` with the fault `kind`; `None` for `OutOfMemory`, or if the line lacks the word or byte
+/// that the hint would show. `number` is the line's number; the first `count` lines of `bytes` stand before the line.
 #[tactic(auto, unfolding(crate::specs::Choices::hint_of_line))]
 fn hint_of_line<'l>(
     number: u64,
@@ -43,7 +43,7 @@ fn hint_of_line<'l>(
     }
 }
 
-/// The hint for a fault of the whole input; `None` if a fault of this kind has no hint.
+/// The hint for a fault of the whole input; `None` unless `kind` is `TooLong` or `NoNodes`.
 #[tactic(auto, unfolding(crate::specs::Choices::hint_of_whole))]
 fn hint_of_whole(bytes: &[u8], kind: FaultKind) -> Option<Hint<'static>>
     ensures { option_map plain_hint result ≡ hint_of_whole bytes.now kind }
@@ -69,8 +69,8 @@ pub(crate) fn line_at(bytes: &[u8], place: usize) -> Option<&[u8]>
     bytes.split(|byte| *byte == b'\n').nth(place)
 }
 
-/// The hint for the line with this number, which has the fault `kind`; `None` if there is no such line, or the fault
-/// has no hint.
+/// The hint for the line with this number, which has the fault `kind`; `None` if there is no such line, or
+/// `hint_of_line` gives none.
 fn hint_at(bytes: &[u8], number: u64, kind: FaultKind) -> Option<Hint<'_>>
     ensures { option_map plain_hint result ≡ hint_at bytes.now number (slice_get (lines_of bytes.now) (number - 1)) kind }
 {
@@ -81,18 +81,19 @@ fn hint_at(bytes: &[u8], number: u64, kind: FaultKind) -> Option<Hint<'_>>
 }
 
 /// Whether the fault is that memory was refused.
-fn wants_memory(kind: FaultKind) -> bool
-    ensures { result ≡ wants_memory kind }
+fn is_out_of_memory(kind: FaultKind) -> bool
+    ensures { result ≡ is_out_of_memory kind }
 {
     matches!(kind, FaultKind::OutOfMemory)
 }
 
-/// The hint for the first fault of a script; `None` if that fault has no hint.
+/// The hint for the first fault of a script. `None` for `OutOfMemory`. If the input begins with `{`, white space aside,
+/// all other faults have the same hint; else the hint is that of `hint_of_whole` or `hint_at`, which may be `None`.
 #[tactic(auto, unfolding(crate::specs::Choices::hint_of))]
 fn hint_of(bytes: &[u8], fault: ScriptFault) -> Option<Hint<'_>>
     ensures { option_map plain_hint result ≡ hint_of bytes.now fault }
 {
-    if wants_memory(fault.kind) {
+    if is_out_of_memory(fault.kind) {
         return None;
     }
     if begins_object(bytes) {

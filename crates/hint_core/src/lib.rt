@@ -1,4 +1,4 @@
-//! What the first fault of an input means, and what to do about it, in one line. To find such a hint, the crate looks
+//! Hints: what the first fault of an input means, and what to do about it, in one line. To find a hint, the crate looks
 //! at the refused input.
 //!
 //! It stands on `grammar_core` (the faults of a script, and what a line and its words are), on `import_core` and

@@ -133,8 +133,8 @@ pub(crate) fn is_console(bytes: &[u8], count: usize, word: &str) -> bool
     is_named(bytes, count, "consoles", word)
 }
 
-/// The first of `words` that the first `count` lines give to a node as its name, or that stood among `words` before;
-/// empty if there is none.
+/// The first of `words` that the first `count` lines give to a node as its name, or that equals an earlier one of
+/// `words`; empty if there is none.
 #[tactic(auto, unfolding(crate::specs::LineWords::first_again))]
 pub(crate) fn first_again<'l>(bytes: &[u8], count: usize, words: &[&'l str]) -> &'l str
     ensures { result.now ≡ first_again (take count (lines_of bytes.now)) [] (map (λ word. word.now) words.now) }

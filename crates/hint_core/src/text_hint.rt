@@ -6,8 +6,9 @@ ghost use Rattle.hint_core.specs.Choices.{is_text_byte, byte_text, byte_from, no
 use crate::first_bytes::is_marked;
 use crate::hint::{Hint, about};
 use crate::line_words::behind;
+use grammar_core::LONGEST_LINE;
 
-/// Says what sort of byte this is, one that a text can't have, and what to do about it.
+/// For a byte that no text can have: what sort it is, and for most sorts what to write instead.
 #[tactic(auto, unfolding(crate::specs::Choices::byte_text))]
 fn byte_text(byte: u8) -> &'static str
     ensures { result.now ≡ byte_text byte }
@@ -71,7 +72,7 @@ fn long_word<'l>(words: &[&'l str]) -> &'l str
 pub(crate) fn too_long<'l>(line: &[u8], words: &[&'l str]) -> Option<Hint<'l>>
     ensures { option_map plain_hint result ≡ too_long line.now (map (λ word. word.now) words.now) }
 {
-    if line.len() > 4096 {
+    if line.len() > LONGEST_LINE {
         return Some(Hint::Plain("a line has at most 4096 bytes"));
     }
     about(

@@ -37,7 +37,7 @@ pub fn left_out_of<A: Allocator>(import: Import<A>) -> Vec<u64, A>
     import.left_out
 }
 
-/// What stands between the line feeds of the input, in order. Behind a line feed at the end comes an empty line.
+/// The lines of the input, in order, without their line feeds. Behind a line feed at the end comes an empty line.
 pub fn lines_of<A: Allocator>(alloc: A, bytes: &[u8]) -> Result<Vec<&[u8], A>, Oom>
     ensures { IfOk result (λ lines. map (λ line. line.now) lines.items ≡ lines_of bytes.now) }
 {
@@ -65,8 +65,8 @@ fn number_at<A: Allocator>(notes: &[Noted<A>], place: usize) -> u64
     }
 }
 
-/// The fault of an order as a fault of the import: at the line of the note that it names by place, or at line 0 for
-/// `OutOfMemory`.
+/// The fault of an order of the events in `notes`, as a fault of the import: at the line of the note that it names by
+/// place, or at line 0 for `OutOfMemory`.
 fn fault_of<A: Allocator>(notes: &[Noted<A>], fault: OrderFault) -> ImportFault
     requires { IsFaultOf (logged_of (map note_of notes.now)) fault }
     ensures { IsOrderFault (map note_of notes.now) result }

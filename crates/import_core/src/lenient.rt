@@ -1,5 +1,5 @@
-//! Leaves out deliveries and answers whose messages no line sends, for logs that begin in the middle of an incident.
-//! `messages` is how many messages the tables have.
+//! For logs that begin in the middle of an incident: leaves out, round by round, each event that waits for a message
+//! which none of the rest sends. The parameter `messages` is the count of numbered messages, and bounds their numbers.
 ghost use Rattle.std.specs.Prelude.{◌≡◌, ◌<◌, ◌++◌, ◌∷◌, [], ◌==◌, ◌||◌, ℕ, not, length, map, slice_index_or, false, IfOk, IfSome, OnOk};
 ghost use Rattle.std.specs.List.{AllByRecursion};
 ghost use Rattle.import_core.specs.Lenient.{IsLenient, Stay, gone, has_awaited, is_message, is_sent, lines_gone, staying};
@@ -60,7 +60,8 @@ fn add_gone<A: Allocator>(
     Ok(())
 }
 
-/// Appends the line numbers of the events that can't stay to `left_out`.
+/// Appends the line numbers of the events that can't stay to `left_out`. `sent` must have the flags that `sent_by`
+/// gives for `notes`.
 fn note_gone<A: Allocator>(
     left_out: &mut Vec<u64, A>,
     notes: &[Noted<A>],

@@ -94,8 +94,8 @@ fn note_of_event<A: Allocator + Copy>(
     Ok(note)
 }
 
-/// The note of a line; `None` if the line is blank, `BadEvent` if it is JSON but no event. The tables change as in
-/// `note_for`.
+/// The note of a line; `None` if the line is blank. Faults in this order: those of `value_of_line`, `BadEvent` if the
+/// line is JSON but no event, those of `note_for`. The tables change as in `note_for`.
 fn note_of_line<A: Allocator + Copy>(
     heap: Global,
     alloc: A,

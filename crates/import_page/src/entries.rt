@@ -88,7 +88,7 @@ fn ask<'a, B: Allocator>(
 
 /// Plays an event, and appends what the event tells besides its call. An event that lists rows tells the rows that only
 /// the bench's list has, and those that only the event's list has. An event whose step can't be asked (see `asked`)
-/// tells that it is unsent. Other events tell nothing.
+/// tells that it is unsent. Both leave the bench and `numbers` unchanged. Other events tell nothing.
 #[tactic(auto, unfolding(import_report::specs::Events::after_event))]
 fn put_told<'a, B: Allocator>(
     bench: &mut Bench<'a, B>,
@@ -111,8 +111,8 @@ fn put_told<'a, B: Allocator>(
     }
 }
 
-/// Plays the event that is at `place` in the order, and appends its entry: its line number, its time, and what it tells
-/// (see `put_told`).
+/// Plays the event that is at `place` in the order, and appends its JSON object: its line number, its time if its line
+/// has one, and what it tells (see `put_told`), with a comma in front unless `place` is 0.
 fn put_entry<'a, B: Allocator>(
     bench: &mut Bench<'a, B>,
     text: &mut String<&'a B>,
@@ -134,8 +134,8 @@ fn put_entry<'a, B: Allocator>(
     Ok(text.push_str("}")?)
 }
 
-/// Plays the events in this order, and appends the entry of each. `lines` are those of the logs, `order` has the places
-/// of the events in `notes`, and `numbers` is as in `play`.
+/// Plays the events in this order, and appends the JSON object of each (see `put_entry`). `lines` are those of the
+/// logs, `order` has the places of the events in `notes`, and `numbers` is as in `play`.
 pub(crate) fn put_entries<'a, B: Allocator>(
     bench: &mut Bench<'a, B>,
     text: &mut String<&'a B>,

@@ -120,7 +120,8 @@ fn shown_of<'a, B: Allocator>(
 }
 
 /// The bench on which the events of these logs were played, with these limits; what the logs tell besides its calls;
-/// and the line numbers of the deliveries and answers that were left out, which only a `lenient` import has.
+/// and the line numbers of the deliveries and answers that were left out, round by round, which only a `lenient` import
+/// has. Refuses the logs that `imported` of `import_core` refuses, with the same fault.
 pub fn import_shown<'a, B: Allocator>(
     heap: Global,
     alloc: &'a B,

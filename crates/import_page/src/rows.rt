@@ -66,8 +66,8 @@ fn put_list<A: Allocator, R: Allocator>(
     Ok(text.push_str("]]")?)
 }
 
-/// Compares the list of an event with the bench's list of the event's node, whatever the clocks, and appends the rows
-/// that only one of the lists has.
+/// Compares the list of an event with the bench's list of the event's node, apart from the rows' clocks, and appends
+/// the rows that only one of the lists has.
 pub(crate) fn put_listed<'a, B: Allocator>(
     bench: &Bench<'a, B>,
     text: &mut String<&'a B>,

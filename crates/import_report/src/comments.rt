@@ -13,7 +13,7 @@ use payload_core::Oom;
 use report_core::name_at;
 use std::alloc::Allocator;
 
-/// The most bytes of a text in a comment.
+/// The most bytes of a text in a comment: so few that the comment fits into a line of a script.
 const LONGEST_TOLD: usize = 4000;
 
 /// The text, which must be ASCII; if it has more than 4,000 bytes, its first 4,000 and `..`.

@@ -54,8 +54,9 @@ fn put_step<A: Allocator, N: Allocator, W: Allocator>(
     Ok(text.push_str("\n")?)
 }
 
-/// Asks the bench `act`, with `node` as the actor, and gives the reply. If the bench took a step, and `sends` is the
-/// message that the step sends, notes in `numbers` the message's number in the node's outbox.
+/// Asks the bench `act`, with `node` as the actor, and gives the reply; the reply `OutOfMemory` is an error. If the
+/// bench took a step, and `sends` is the message that the step sends, notes in `numbers` the message's number in the
+/// node's outbox.
 #[tactic(auto, unfolding(crate::specs::Events::after_step))]
 pub fn play<'a, B: Allocator>(
     bench: &mut Bench<'a, B>,

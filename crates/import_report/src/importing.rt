@@ -50,10 +50,10 @@ fn script_of_import<'a, B: Allocator>(
     )
 }
 
-/// The script of these logs, with the bench on which its lines were played as they were made; and the line numbers of
-/// the deliveries and answers that were left out, which only a `lenient` import has. If `told` is true, a comment above
-/// each event's line in the script has the event's line number in the logs. `TooLong` if the script has more bytes than
-/// a play reads.
+/// The script of these logs, with the bench on which `import_script` played its lines; and the line numbers of the
+/// deliveries and answers that were left out, which only a `lenient` import has. If `told` is true, a comment above
+/// each event's line in the script has the event's line number in the logs. If the logs can't be imported, the fault is
+/// their first; else it is `TooLong`, with line 0, if the script has more bytes than a play reads.
 pub fn import_script<'a, B: Allocator>(
     heap: Global,
     alloc: &'a B,
@@ -151,7 +151,8 @@ fn check_of_import<'a, B: Allocator>(
 }
 
 /// Tells where the bench and the real nodes part, for these logs. Also gives the line numbers of the deliveries and
-/// answers that were left out, which only a `lenient` import has.
+/// answers that were left out, which only a `lenient` import has. If the logs can't be imported, the fault is their
+/// first.
 pub fn import_check<'a, B: Allocator>(
     heap: Global,
     alloc: &'a B,

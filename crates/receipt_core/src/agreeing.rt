@@ -78,7 +78,8 @@ fn are_answered<'a, B: Allocator>(
     told == receipts.len()
 }
 
-/// Whether each list of receipts answers the lines of its actor, whose number is the list's place.
+/// Whether each list of receipts answers the lines of its actor (see `are_answered`). Actors are numbered as the lists,
+/// from 0.
 fn are_all_answered<'a, B: Allocator>(
     after: &History<'a, B>,
     start: u64,

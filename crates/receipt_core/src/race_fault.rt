@@ -12,7 +12,7 @@ pub enum RaceFault {
     /// A line's actor isn't below the number of actors that the race was given.
     #[error("UnknownActor")]
     UnknownActor,
-    /// The bench's limit on acts leaves no room for a call and a step for each line.
+    /// The bench has fewer than two free places for each line: one for the call, one for the step.
     #[error("NoRoom")]
     NoRoom,
     /// A worker couldn't be started.

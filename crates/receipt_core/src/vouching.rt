@@ -28,7 +28,7 @@ fn are_known<A: Allocator>(lines: &[(u16, Act<A>)], actors: u16) -> bool
     true
 }
 
-/// Whether the bench's limit on acts leaves room for a call and a step for each line.
+/// Whether the bench has two free places for each line: one for the call, one for the step.
 fn has_room<'a, B: Allocator>(bench: &Bench<'a, B>, lines: &[(u16, Act<&'a B>)]) -> bool
     ensures { result ≡ has_room bench.now (calls_of lines.now) }
 {
@@ -89,8 +89,8 @@ pub struct Known<'a, B: Allocator> {
 }
 
 /// `Ok` if no call was refused memory, the receipts account for the history (see `agree`), each actor has a list of
-/// them, and the bench has its old names and limits. `OutOfMemory` if a call, or `agree` itself, was refused memory;
-/// otherwise `LogsDisagree`.
+/// them, and the bench has its old names and limits. `OutOfMemory` if a call, or this check itself, was refused
+/// memory; otherwise `LogsDisagree`.
 #[tactic(auto, using(crate::proofs::Interleaving::agrees_interleave, crate::proofs::Replies::agrees_replies))]
 fn vouch<'a, B: Allocator>(
     before: &Known<'a, B>,

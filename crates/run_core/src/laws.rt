@@ -2,8 +2,9 @@
 ghost use Rattle.run_core.specs.Prompts.{PromptLaw};
 ghost use Rattle.run_core.specs.ReadSteps.{StepLaw};
 
-/// The line that is printed of a kept step is read as the same step of the same node, wherever the line stands in a
-/// script with the same nodes. This is true of each step that a script can hold.
+/// The line `NODE VERB ..` that `put_act` of `report_core` prints of a step is read as the same step of the same node,
+/// wherever the line stands behind the `nodes` line of a script with the same nodes. This is true of each step that a
+/// script can hold: the nodes in the step are nodes of the script, and an extract names at least one.
 pub fn step_law()
     ensures { StepLaw }
 {}

@@ -47,10 +47,10 @@ fn asked<'a, B: Allocator + Sync, G: Gate + Sync, R: Threads + Wait + Sync>(
 }
 
 /// Asks the bench the lines, those of each actor in their order and on a thread of their own, and compares what the
-/// workers tell with the history. Actors are numbered from 0, and lines from 1. The bench comes back with a fault, too.
-/// `UnknownActor` and then `NoRoom` come before anything is done; after `WorkerRefused` no line was asked;
-/// `OutOfMemory` may come before the workers start or after; `LogsDisagree` comes last. All that is promised holds if
-/// `race` returns.
+/// workers tell with the history. Actors are numbered from 0, and lines from 1. Even with a fault `race` gives the
+/// bench back. `UnknownActor`, or else `NoRoom`, comes before anything is done, and the bench is unchanged; with
+/// `WorkerRefused` no line was asked; `OutOfMemory` may come before the workers start or after; `LogsDisagree` comes
+/// last. All that is promised holds if `race` returns.
 pub fn race<'a, B: Allocator + Sync, G: Gate + Sync, R: Threads + Wait + Sync>(
     rt: &R,
     alloc: &'a B,

@@ -173,7 +173,7 @@ fn count_lines<L>(lines: &[(u16, L)], actor: u16) -> usize {
     lines.iter().filter(|(other, _)| *other == actor).count()
 }
 
-/// A slot with room for `count` lines of the actor, and the channel to it.
+/// A slot with room for `count` lines of the actor and a receipt of each, and the channel to the slot.
 fn slot_of<L: Drop, T: Drop, A: Allocator + Copy>(
     alloc: A,
     actor: u16,
