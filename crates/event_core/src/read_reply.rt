@@ -48,7 +48,8 @@ fn consequence_at(list: &Value) -> Result<Fault, Unread>
 }
 
 /// The fault of a refusal, by the number behind `no`. Behind 16, which stands for `HasConsequence`, the list has the
-/// numbers of the step and of its consequence. `Shape` if the list has another form, or the number is no such fault's.
+/// numbers of the step and of its consequence. `Shape` if the list has another form, or no fault that is recorded has
+/// the number.
 #[tactic(auto, unfolding(crate::specs::Decoding::fault_at))]
 fn fault_at(list: &Value) -> Result<Fault, Unread>
     ensures { Gives (λ f. f) result (fault_at (view list.now)) }

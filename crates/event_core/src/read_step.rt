@@ -16,7 +16,7 @@ use payload_core::Word;
 use serde_json::Value;
 use std::alloc::Allocator;
 
-/// What a join and an update say of a process.
+/// The presence that a join or an update names.
 #[derive(Drop)]
 struct Presence<A: Allocator> {
     pid: u64,
@@ -186,7 +186,8 @@ fn name_at(list: &Value) -> Result<u16, Unread>
     Ok(name)
 }
 
-/// The step of an up, a down or a permanently down; `Shape` for any other verb.
+/// The step of an up, a down or a permanently down; `Shape` for any other verb, or unless just a name follows the verb
+/// (see `name_at`).
 #[tactic(auto, unfolding(crate::specs::Decoding::status_at))]
 fn status_at<A: Allocator>(verb: &str, list: &Value) -> Result<Step<A>, Unread>
     ensures { Gives plain result (status_at verb.now (view list.now)) }
@@ -205,7 +206,8 @@ fn status_at<A: Allocator>(verb: &str, list: &Value) -> Result<Step<A>, Unread>
     }
 }
 
-/// The step of a verb that sends or delivers a message; for other verbs what `status_at` gives.
+/// The step of a verb that sends or delivers a message, or `Shape` if what follows that verb doesn't have its form; for
+/// other verbs what `status_at` gives.
 #[tactic(auto, unfolding(crate::specs::Decoding::message_at))]
 fn message_at<A: Allocator>(verb: &str, list: &Value) -> Result<Step<A>, Unread>
     ensures { Gives plain result (message_at verb.now (view list.now)) }
@@ -222,7 +224,8 @@ fn message_at<A: Allocator>(verb: &str, list: &Value) -> Result<Step<A>, Unread>
     }
 }
 
-/// The step of a verb that changes the node's own entries; for other verbs what `message_at` gives.
+/// The step of a verb that changes the node's own entries, or `Shape` if what follows that verb doesn't have its form;
+/// for other verbs what `message_at` gives.
 #[tactic(auto, unfolding(crate::specs::Decoding::tracking_at))]
 fn tracking_at<'a, B: Allocator>(
     alloc: &'a B,

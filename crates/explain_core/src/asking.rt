@@ -16,8 +16,8 @@ pub struct Question<'q> {
     pub key: &'q str,
 }
 
-/// The explanation for the question. `NoSuchNode` if no node has the name, `NoWord` if the topic or the key isn't a
-/// word.
+/// The explanation for the question. `NoSuchNode` if no node has the name; else `NoWord` if the topic or the key isn't
+/// a word, or `OutOfMemory`.
 pub fn explain_asked<'a, B: Allocator>(
     bench: &Bench<'a, B>,
     alloc: &'a B,

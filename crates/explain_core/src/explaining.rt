@@ -85,7 +85,7 @@ fn put_step_if<'a, A: Allocator, B: Allocator>(
     }
 }
 
-/// Appends a line (see `put_labelled`) for each of the steps with these numbers that remains.
+/// Appends what `put_step` appends for each of these numbers, in their order.
 #[tactic(auto, unfolding(crate::specs::Explanations::step_lines))]
 fn put_steps<'a, A: Allocator, B: Allocator>(
     bench: &Bench<'a, B>,
@@ -329,11 +329,11 @@ fn put_explanation<'a, A: Allocator, B: Allocator>(
     put_makings(bench, text, node, makings, alloc)
 }
 
-/// Tells why the presences of a topic and key are online at a node, or why not: each presence that a remaining step
-/// made, in the order of these steps. Of each the text has the step that made it, and its dot; the step by which it
-/// left at its own node, if it did; how it stands at the node, with the steps that tell why; the node's last up, down
-/// or permanently down of the presence's name, if one remains; and, if the presence left and is still live at the node,
-/// why its removal didn't come.
+/// Tells why the presences of a topic and key are online at a node, or why not. The first line says how many of them
+/// the remaining steps made; then comes each of these, in the order of the steps. Of each the text has the step that
+/// made it, and its dot; the step by which it left at its own node, if it did; how it stands at the node, with the
+/// steps that tell why; the node's last up, down or permanently down of the presence's name, if one remains; and, if
+/// the presence left and is still live at the node, why its removal didn't come.
 #[tactic(auto, unfolding(crate::specs::Explanations::explanation))]
 pub fn explain<'a, B: Allocator>(
     bench: &Bench<'a, B>,

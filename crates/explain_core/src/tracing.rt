@@ -1,4 +1,4 @@
-//! Presences with the tracks of their dots, which are followed over the remaining steps together.
+//! Presences with the tracks of their dots. One walk over the remaining steps follows all the dots.
 ghost use Rattle.std.specs.Prelude.{◌≡◌, ◌++◌, ◌∷◌, [], IfOk, List, OnOk, length, map};
 ghost use Rattle.explain_core.specs.declared.making.Making.{Making as Made};
 ghost use Rattle.explain_core.specs.Tracks.{opened as emptied};
@@ -12,7 +12,7 @@ use payload_core::Oom;
 use std::alloc::Allocator;
 use std::marker::Model;
 
-/// A presence that a step made, and the track of its dot, as far as the steps were followed.
+/// A presence that a step made, and the track of the presence's dot over the steps that were asked so far.
 #[derive(Drop)]
 pub struct Traced<A: Allocator> {
     pub making: Making,

@@ -12,8 +12,7 @@ use payload_core::Oom;
 use std::alloc::Allocator;
 use std::marker::Model;
 
-/// How a dot stands at each node, and since which of the node's steps; and the steps that sent, delivered, missed or
-/// forgot it, in their order.
+/// How a dot stands at each node, and since which of the node's steps; and the dot's hops, in the order of the steps.
 #[derive(Drop)]
 pub struct Track<A: Allocator> {
     pub stands: Vec<Stand, A>,
@@ -87,8 +86,8 @@ fn sent_hop<A: Allocator>(
 }
 
 /// The hop of a delivery: the dot stood as `before` at the node, stands as `told` in the message, and as `now` at the
-/// node after it. `Came` if the standing at the node changed; `Missed` if it didn't and `told` is above it; `None` if
-/// neither is so. `reads` is the number of the step that sent the message.
+/// node after the delivery. `Came` if the standing at the node changed; `Missed` if it didn't and `told` is
+/// above it; `None` if neither is so. `reads` is the number of the step that sent the message.
 fn delivered_hop<A: Allocator>(
     kept: &Kept<A>,
     before: Stand,
@@ -138,7 +137,7 @@ fn other_hop<A: Allocator>(kept: &Kept<A>, before: Stand, now: Standing) -> Opti
     }
 }
 
-/// The hop of a step; `None` if it neither sent, delivered, missed nor forgot the dot. The dot stood as `before` at the
+/// The hop of a step; `None` if the step did to the dot nothing that `Kind` lists. The dot stood as `before` at the
 /// step's node and stands there as `now`. `asked` is the bench after the step; `hops` are the dot's earlier hops.
 #[tactic(auto, unfolding(crate::specs::Tracks::hop_at))]
 fn hop_at<'a, B: Allocator>(
@@ -213,7 +212,7 @@ fn put_hop<A: Allocator>(hops: &mut Vec<Hop, A>, hop: Option<Hop>) -> Result<(),
 }
 
 /// Notes in `stands` how the dot stands at the step's node after the step, and that it has stood so since this step.
-/// Changes nothing if the dot stood so before.
+/// Changes nothing if the dot stood so before, or if there is no such node.
 fn put_stand<A: Allocator, W: Allocator>(
     stands: &mut Vec<Stand, A>,
     kept: &Kept<W>,

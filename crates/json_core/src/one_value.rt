@@ -15,8 +15,8 @@ use json::{Reader, Token};
 use serde_json::{Map, Value};
 use std::alloc::Global;
 
-/// The whole number that the text spells. `None` if the text isn't digits alone, or the number doesn't fit into 64
-/// bits.
+/// The whole number that the text of a JSON number spells. `None` if that text isn't digits alone, or the number
+/// doesn't fit into 64 bits.
 fn whole_number(text: &str) -> Option<u64>
     ensures { IfSome result (λ whole. number_of text.now ≡ Some (unsigned whole)) }
 {

@@ -11,7 +11,7 @@ const own = names || plain, N = own.length, ROW = 20, CHUNK = 20, END = Infinity
 
 const many = (k, word) => `${k} ${word}${k === 1 ? "" : "s"}`;
 
-// Escapes each character that would end a row or turn its text round.
+// Escapes controls, separators of lines and the like, which would break a row or reverse its direction.
 const safe = text => text.replace(/[\p{C}\u2028\u2029]/gu, c => `\\u{${c.codePointAt().toString(16)}}`);
 const quoted = text => safe(/^[^\s"\p{C}]+$/u.test(text) ? text : JSON.stringify(text)), nodes = own.map(quoted);
 // In a run from logs a word spells a value: a string, or `%=` and JSON, with bytes as `%XX`; cut, it ends in `~NUMBER`.
@@ -418,7 +418,7 @@ function reason(p, n, left) {
   return out;
 }
 
-// The lists, below
+// The lists that stand below the picture
 let grid = []; // what each row stands for
 const pool = [];
 function below() {
@@ -584,7 +584,7 @@ function seek(dir, test) {
   if (dir < 0 && test === any) go(-1);
 }
 
-// The part of the page's address behind `#`: `hash` writes into it what is shown, and `load` reads it.
+// The page's address behind `#`: `hash` makes it from what is shown, `show` puts it there, and `load` reads it.
 let timer = 0;
 function hash(i, n = why, text = query) {
   const w = words_of(text).map(encodeURIComponent), out = [calls[i]?.step ? "step=" + calls[i].step : "call=" + (i + 1)];

@@ -1,7 +1,8 @@
 //! The hops of a delivery, which tell what changes at the node: `NAME,CLOCK,STANDING` of each dot that stands otherwise
 //! after the delivery. And what the node misses: `NAME,CLOCK,MORE` of each name that the message has dots of and the
-//! node doesn't know. NAME is the number of a name. In a hop CLOCK is the dot's clock, and STANDING is 1 live, 2 gone.
-//! In the second form CLOCK is the name's context clock in the message, and MORE counts the clocks of its cloud there.
+//! node doesn't know. NAME is the number of a name. In a hop CLOCK is the dot's clock, and STANDING tells how the dot
+//! stands after the delivery: 1 live, 2 gone. In the second form CLOCK is the name's context clock in the message, and
+//! MORE counts the clocks of its cloud there.
 ghost use Rattle.std.specs.Prelude.{◌≡◌, ◌++◌, ◌<◌, ◌≤◌, IfOk, OnOk, option_map};
 ghost use Rattle.std.specs.List.{flat_map};
 ghost use Rattle.store_core.specs.Stores.{store_of};

@@ -21,7 +21,7 @@ pub struct Before<'a, B: Allocator> {
     /// a back, or its actor isn't a node.
     pub reads: String<&'a B>,
     /// The node that the call asks to change. For a step it is the actor, even one that isn't a node; for an undo or a
-    /// back it is the node of the step to take back, or `None` if there is no such step.
+    /// back it is the node of the step to take back, or `None` if no such step remains.
     pub node: Option<u16>,
     /// How the step that the call asks to take back had changed its node's online list. No rows if the call is a step,
     /// or an undo or a back that will be refused.
@@ -41,7 +41,7 @@ fn node_undone<'a, B: Allocator>(bench: &Bench<'a, B>, number: Option<u64>) -> O
 }
 
 /// The node that a call asks to change: the actor, if the act is a step, and else the node of the step to take back.
-/// `None` if there is no step to take back.
+/// `None` if no such step remains.
 #[tactic(auto, unfolding(crate::specs::Asked::asked_node))]
 fn asked_node<'a, B: Allocator>(bench: &Bench<'a, B>, actor: u16, act: &Act<&'a B>) -> Option<u16>
     ensures { result ≡ asked_node bench.now actor (plain_act act.now) }

@@ -176,7 +176,7 @@ fn put_undone<'a, B: Allocator>(
     put_undone_at(text, bench, before, alloc)
 }
 
-/// Appends, for `HasConsequence`, the step whose undo was refused and the consequence that holds this step; nothing for
+/// Appends, for `HasConsequence`, the step whose undo was refused and this step's least consequence; nothing for
 /// another fault.
 fn put_held<A: Allocator>(text: &mut String<A>, fault: Fault) -> Result<(), Oom>
     ensures { OnOk result (string_bytes text.new ≡ string_bytes text.old ++ held_keys fault) }

@@ -13,8 +13,9 @@ pub fn plain_with_law()
     ensures { PlainWithLaw }
 {}
 
-/// If a call changed a node, the call's text ends with the rows that left and joined the node's online list, and with
-/// the changes of what the node has seen. `rows_law` and `dots_law` are about these.
+/// If a call took a step or took one back, the last keys of the call's JSON object tell which rows left and joined the
+/// online list of the step's node, and what changed in what this node has seen. `rows_law` and `dots_law` are about
+/// these.
 pub fn change_law()
     ensures { ChangeLaw }
 {}

@@ -70,9 +70,10 @@ fn put_arrival<'a, B: Allocator>(
     }
 }
 
-/// Appends what a step reads before it is taken: `prev`, the number of its node's last remaining step, if there is one;
-/// and `from`, if the step delivers a message, the number of the step that sent this message. For a delivery, what the
-/// node misses and what the delivery changes come next. `bench` is the bench before the step; `actor` must be a node.
+/// Appends what a step reads before it is taken: `prev`, the number of its node's last remaining step, and `from`, the
+/// number of the remaining step that sent the message which the step delivers; each only if there is such a step. For a
+/// delivery, what the node misses and what the delivery changes come next. `bench` is the bench before the step;
+/// `actor` must be a node.
 #[tactic(auto, unfolding(crate::specs::PageData::reads_keys))]
 pub fn put_reads<'a, B: Allocator>(
     text: &mut String<&'a B>,
@@ -108,7 +109,7 @@ fn put_broadcast<'a, B: Allocator>(
     put_numbers_key(text, "gone", &gone)
 }
 
-/// Appends what a message carries that `step` sent: for a broadcast the clocks of the dots of `name` in the message,
+/// Appends what `message`, which `step` sent, carries: for a broadcast the clocks of the dots of `name` in the message,
 /// and else the names below `count` of which the message has dots.
 fn put_carried<'a, B: Allocator>(
     text: &mut String<&'a B>,
@@ -213,7 +214,8 @@ fn put_made_text<A: Allocator, W: Allocator>(
     Ok(text.push_str("]")?)
 }
 
-/// Appends the presence that a join or an update made; nothing for another step. `bench` is the bench after the step.
+/// Appends the presence that a join or an update made; nothing for another step, or if `actor` isn't a node. `bench` is
+/// the bench after the step.
 fn put_made<'a, B: Allocator>(
     text: &mut String<&'a B>,
     bench: &Bench<'a, B>,

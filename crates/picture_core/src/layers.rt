@@ -21,9 +21,9 @@ use payload_core::Oom;
 use report_core::{Acted, ask};
 use std::alloc::Allocator;
 
-/// What is drawn of the recorded calls: the messages and the rows, which lie over the lanes; how many bytes the words
-/// of a drawn row have at most (`longest`); and the changes of the lanes. At such a change a node begins or stops
-/// listing what is asked about.
+/// What is drawn of the recorded calls: the messages and the rows, which lie over the lanes; how many bytes the longest
+/// words of a drawn row have, at most 4096 (`longest`); and the changes of the lanes. At such a change a node begins or
+/// stops listing what is asked about.
 #[derive(Drop)]
 pub struct Layers<'a, B: Allocator> {
     pub messages: String<&'a B>,

@@ -1,5 +1,5 @@
 //! Draws a bench as a picture, in SVG, in which time goes down. Here each recorded call has a row of the picture, and a
-//! circle or a cross in that row as its mark; neither is a row of an online list or a mark of `order_core`.
+//! circle or a cross in that row is the call's mark; neither is a row of an online list or a mark of `order_core`.
 //!
 //! The crate stands on `bench_core` (the machine), `diff_core` (online lists), `report_core` (what calls changed),
 //! `transcript_core` (calls as lines) and `svg_core` (elements), and names the plain types of the crates below.

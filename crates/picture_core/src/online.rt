@@ -74,7 +74,8 @@ fn is_among<A: Allocator>(rows: &[OnlineRow<A>], row: &OnlineRow<A>) -> bool
     rows.iter().any(|other| row == other)
 }
 
-/// Whether one of `rows` has the topic and key that are asked about, and isn't among `joined`.
+/// Whether a row with the topic and key that are asked about stood in a list before a call and still does: `rows` is the
+/// list after the call, and `joined` has the rows that joined by the call.
 fn lists_beside<A: Allocator, R: Allocator>(
     asked: &Asked<A>,
     rows: &[OnlineRow<R>],
@@ -171,8 +172,8 @@ fn put_switch<A: Allocator>(path: &mut String<A>, nodes: u32, switch: Switch) ->
     Ok(write!(path, "V{down}")?)
 }
 
-/// Appends to the path a line down to where row `last` begins. If `listing` is false, the node doesn't list what is
-/// asked about there, and this appends nothing.
+/// Appends to the path a line down to where row `last` begins. Appends nothing if `listing` is false, as the node has
+/// then stopped listing what is asked about, or never began.
 fn put_end<A: Allocator>(path: &mut String<A>, listing: bool, last: u32) -> Result<(), Oom>
     ensures { OnOk result (string_bytes path.new ≡ string_bytes path.old ++ end_path listing last) }
 {

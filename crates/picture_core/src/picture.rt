@@ -71,7 +71,7 @@ fn put_front<A: Allocator>(text: &mut String<A>) -> Result<(), Oom>
     put_ground(text)
 }
 
-/// How many bytes the longest name has, at most 4096.
+/// How many bytes the longest name has.
 fn longest_name<N: Allocator>(names: &Names<N>) -> u32
     ensures { result ≡ longest_name names.now }
 {
@@ -238,7 +238,7 @@ fn put_part_of<A: Allocator>(
     )?)
 }
 
-/// Appends the start tag of the inner `svg` element below the names, which shows the rows from `first` on.
+/// Appends the start tag of the inner `svg` element, which stands below the names and shows the rows from `first` on.
 fn put_part<'a, A: Allocator, B: Allocator>(
     text: &mut String<A>,
     top: u64,
@@ -260,7 +260,7 @@ fn put_layer<A: Allocator, B: Allocator>(text: &mut String<A>, layer: &String<B>
     Ok(text.push_str(layer.as_str())?)
 }
 
-/// How wide the picture is. `longest` says how many bytes the words of a drawn row have at most.
+/// How wide the picture is, if the longest words of a drawn row have `longest` bytes.
 #[tactic(auto, unfolding(crate::specs::Pictures::width))]
 fn width(nodes: u32, longest: u32) -> u64
     ensures { result ≡ width nodes longest }

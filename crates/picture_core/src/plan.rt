@@ -54,7 +54,7 @@ pub fn down(row: u32) -> u64
     20 * u64::from(row) + 10
 }
 
-/// How far from a lane the message that step `step` sent comes down.
+/// The message that step `step` sent comes down this far from a lane.
 #[tactic(auto, unfolding(crate::specs::Plans::aside))]
 fn aside(nodes: u32, step: u64) -> u64
     ensures is { result ≡ aside nodes step }
@@ -63,7 +63,7 @@ fn aside(nodes: u32, step: u64) -> u64
     6 + 3 * (step % slots(nodes))
 }
 
-/// How far to the right the message that step `step` sent comes down to `node`. It comes down left of the lane of
+/// The message that step `step` sent comes down to `node` this far to the right. It comes down left of the lane of
 /// `node` if the lane of `sender` is left of that lane, and else right of it.
 #[tactic(auto, unfolding(crate::specs::Plans::waits_at))]
 pub fn waits_at(nodes: u32, sender: u32, node: u32, step: u64) -> u64

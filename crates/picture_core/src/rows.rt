@@ -123,7 +123,8 @@ fn looks(steps: &[Drawn], reply: Reply) -> Kind
     }
 }
 
-/// The node of the step whose undo an act asks for; `None` if the act asks for no undo, or the step doesn't remain.
+/// The node of the step that an act asks to take back: the step of an undo, or for a back the last step of a node.
+/// `None` if the act is a step, or no such step remains.
 pub fn node_undone<'a, B: Allocator>(bench: &Bench<'a, B>, act: &Act<&'a B>) -> Option<u16>
     ensures { result ≡ node_undone bench.now (asked_undo bench.now (plain_act act.now)) }
 {

@@ -180,8 +180,9 @@ fn path_between<'a, B: Allocator>(
     Ok(path)
 }
 
-/// The path of a message: along the row of its send, down beside the lane of the node that takes it, and to the mark of
-/// the delivery. `from` and `to` are each a row and a node; `source` is the number of the step that sent the message.
+/// The path of a message: along the row of its send, down beside the lane of the node that delivers it, and to the mark
+/// of the delivery. `from` and `to` are each a row and a node; `source` is the number of the step that sent the
+/// message.
 fn message_path<'a, B: Allocator>(
     nodes: u32,
     from: (u32, u32),
@@ -203,7 +204,7 @@ fn message_path<'a, B: Allocator>(
     path_between((start, sent), beside, above, (end, taken), alloc)
 }
 
-/// The title of a message from the step `source` to the step `number`.
+/// The title of a message: `step SOURCE to step NUMBER`.
 #[tactic(auto, unfolding(crate::specs::Shapes::message_title))]
 fn message_title<'a, B: Allocator>(
     source: u64,

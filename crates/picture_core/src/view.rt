@@ -53,7 +53,7 @@ fn named_node<'a, B: Allocator>(
 }
 
 /// What `presence` asks about, with the node as a number, and topic and key as words. `NoSuchNode` if no node has the
-/// name, `NoWord` if topic or key isn't a word.
+/// name; else `NoWord` if topic or key isn't a word, or `OutOfMemory`.
 fn presence_asked<'a, B: Allocator>(
     bench: &Bench<'a, B>,
     presence: Presence<'_>,
@@ -84,7 +84,7 @@ fn asked<'a, B: Allocator>(
 }
 
 /// The picture of a bench whose consoles have the names `consoles`. `NoSuchNode` if no node has the name that is asked
-/// about, `NoWord` if topic or key isn't a word.
+/// about; else `NoWord` if topic or key isn't a word, or `OutOfMemory`.
 ///
 /// Time goes down: each recorded call in the range has a row, with the number of its step, if it took one, its mark,
 /// and its words. The mark stands on the lane of the node that the call changed or, of a refused call, of its actor; a

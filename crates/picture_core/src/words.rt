@@ -22,8 +22,8 @@ fn put_reply_words<A: Allocator>(text: &mut String<A>, reply: Reply) -> Result<(
     }
 }
 
-/// Appends the words for rows of an online list: nothing for none; for one row two spaces, `sign`, its topic and its
-/// key; for several two spaces, `sign`, and how many they are.
+/// Appends the words for rows of an online list: nothing if there are none; `sign` and the row's topic and key if there
+/// is one; `sign` and how many they are if there are several. Two spaces come before `sign`.
 fn put_row_words<A: Allocator, R: Allocator>(
     text: &mut String<A>,
     sign: &str,

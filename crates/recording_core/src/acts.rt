@@ -56,8 +56,8 @@ impl<'a, B: Allocator> Acts<&'a B> {
         }
     }
 
-    /// Reads the items of an array, from behind the bracket that opens it through the one that closes it. Each item's
-    /// JSON is dropped once its event is known.
+    /// Reads the items of an array, from behind the bracket that opens it through the one that closes it. `Shape` if
+    /// the text there isn't JSON, or nests too deep. Each item's JSON is dropped once its event is known.
     pub(crate) fn of_items(
         heap: Global,
         alloc: &'a B,

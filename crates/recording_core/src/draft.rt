@@ -23,8 +23,8 @@ const MAX_DEPTH: usize = 127;
 /// How deep a member of the outermost object may nest.
 const MEMBER_DEPTH: usize = 126;
 
-/// The JSON value of a text, or of the text's member `acts`. If the acts are an array, its items were taken out, and
-/// read as events.
+/// A JSON value that was read, with its acts apart: the value of a whole session, or, from `acts_member`, that of its
+/// member `acts`. If that member is an array, its items are in `acts` as events, and an empty array is in its place.
 #[derive(Drop)]
 pub(crate) struct Draft<A: Allocator> {
     /// The value, with an empty array in place of the array of the acts.
@@ -56,8 +56,9 @@ fn acts_member<'a, B: Allocator>(
     }
 }
 
-/// Reads the value of the member `name`. If the name is `acts`, reads the value as `acts_member` does, and puts its
-/// events in place of those in the parameter `acts`; else leaves that parameter as it is.
+/// Reads the value of the member `name`. If the name is `acts`, reads the value as `acts_member` does, and puts the
+/// value's events in place of those in the parameter `acts`, or none if the value isn't an array; else leaves that
+/// parameter as it is.
 fn member<'a, B: Allocator>(
     heap: Global,
     alloc: &'a B,
@@ -81,7 +82,8 @@ fn member<'a, B: Allocator>(
 }
 
 /// Reads the members of the outermost object, and the brace that closes it. Puts the members into `found`, and the
-/// events of the member `acts` into the parameter `acts`; both must be empty. Of members with one name the last counts.
+/// events of the member `acts` into the parameter `acts`; both must be empty. If several members have the same name,
+/// the last one counts.
 fn read_members<'a, B: Allocator>(
     found: &mut Map<String, Value>,
     acts: &mut Acts<&'a B>,

@@ -16,7 +16,7 @@ pub(crate) fn version_of(value: &Value) -> Option<u64>
     value.get("version").and_then(Value::as_u64)
 }
 
-/// The limits that the list's four numbers give; `Shape` for another list, or if a bench can't have such limits.
+/// The limits that a list of four whole numbers gives; `Shape` for any other value, or if a bench can't have them.
 #[tactic(auto, unfolding(crate::specs::Decoding::limits_at))]
 fn limits_at(list: &Value) -> Result<Limits, Unread>
     ensures { Gives (λ l. l) result (limits_at (view list.now)) }

@@ -18,7 +18,7 @@ use json_core::Unread;
 use std::alloc::{Allocator, Global};
 
 /// What a session's text says: what its bench is opened with, and the calls that the bench recorded, up to the first
-/// act that doesn't stand for one.
+/// item of the list of acts that doesn't stand for a recorded call.
 #[derive(Drop)]
 pub struct Recording<A: Allocator> {
     pub version: Version,
@@ -77,11 +77,12 @@ fn read<'a, B: Allocator>(
     }
 }
 
-/// Reads what the text of a session says, of either version, before its calls are asked. It refuses a text that isn't
-/// JSON, or whose head isn't a session's, with the fault that `load` of `session_core` gives. Its caller has to check
-/// that each value in the list of acts is an event (`is_cut` is false), that a text of this version can have these
-/// acts, and that a bench that is asked them gives the recorded replies. Each act's JSON is dropped once its event is
-/// known. JSON values and the list of events take their memory from the global heap.
+/// Reads what the text of a session says, of either version, before its calls are asked. Refuses, as `load` of
+/// `session_core` does, a text that isn't JSON or nests too deep as `NotJson`, and one whose head isn't a session's as
+/// `BadVersion` or `BadShape` with act 0. The caller has to check that each value in the list of acts is an event
+/// (`is_cut` is false), that a text of this version can have these acts with their replies, and that a bench that is
+/// asked them gives the recorded replies and records them. Each act's JSON is dropped once its event is known. JSON
+/// values and the list of events take their memory from the global heap.
 pub fn read_session<'a, B: Allocator>(
     heap: Global,
     alloc: &'a B,

@@ -11,7 +11,7 @@ pub enum SessionFault {
     /// or no such reply.
     #[error("BadShape at act {act}")]
     BadShape { act: u64 },
-    /// The number under `version` is neither 1 nor 2.
+    /// The whole number under `version` is neither 1 nor 2.
     #[error("BadVersion")]
     BadVersion,
     /// The bench, asked this act, gives another reply or doesn't record the act.

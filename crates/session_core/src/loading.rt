@@ -73,13 +73,13 @@ fn take_events<'a, B: Allocator>(
     Ok(())
 }
 
-/// The bench of a session, of either version: it is opened with the session's names and limits, and asked its calls in
-/// order. The bench has to give each reply that is in the text, and to record the call. If an object has two equal
-/// keys, the last one counts. The refusals come in this order: `NotJson`; `BadShape {act: 0}` if there is no whole
-/// number at `version`; `BadVersion` if that is neither 1 nor 2; `BadShape {act: 0}` for the rest of the head; then,
-/// act by act, `BadShape` before `Disagrees`. Only the second version has requests, answers and the refusals that come
-/// of these. Each act's JSON is dropped once its event is known. JSON values and the list of events take their memory
-/// from the global heap.
+/// The bench of a session, of either version: it is opened with the session's names and limits, and asked the session's
+/// calls in order. The bench has to give each reply that is in the text, and to record the call. If an object has two
+/// equal keys, the last one counts. The refusals come in this order: `NotJson`; `BadShape {act: 0}` if there is no
+/// whole number at `version`; `BadVersion` if that is neither 1 nor 2; `BadShape {act: 0}` for the rest of the head
+/// (all but the acts); then, act by act, `BadShape` before `Disagrees`. `OutOfMemory` may come before any of these.
+/// Only the second version has requests, answers, `NotRequest` and `IsRequest`. Each act's JSON is dropped once its
+/// event is known. JSON values and the list of events take their memory from the global heap.
 pub fn load<'a, B: Allocator>(
     heap: Global,
     alloc: &'a B,

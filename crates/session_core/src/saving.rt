@@ -73,7 +73,8 @@ fn session_value<'a, B: Allocator>(heap: Global, bench: &Bench<'a, B>) -> Result
 }
 
 /// The compact text of the bench's session, of the second version: its names, its limits, and each recorded call with
-/// its reply. JSON values take their memory from the global heap.
+/// its reply. `load` makes the same bench from this text, unless memory is refused. JSON values take their memory from
+/// the global heap.
 pub fn save<'a, B: Allocator>(heap: Global, bench: &Bench<'a, B>) -> Result<Vec<u8>, Oom>
     ensures text { IfOk result (λ text. text.items ≡ compact_text (session 2 bench.now.names bench.now.limits bench.now.state.history)) }
     ensures saved { IfOk result (λ text. IsSaved text.items bench.now) }

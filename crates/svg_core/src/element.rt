@@ -1,4 +1,4 @@
-//! Appends elements, and their ends.
+//! Appends the beginnings and ends of elements, and whole elements.
 ghost use Rattle.std.specs.Prelude.{◌≡◌, ◌++◌, OnOk, string_bytes};
 ghost use Rattle.svg_core.specs.Trees.{end_text, leaf, opening_text, text_of};
 ghost use Rattle.svg_core.specs.Values.{plain_attributes};

@@ -4,14 +4,14 @@ ghost use Rattle.svg_core.specs.Escapes.{escape, escaped, is_plain, stand_in};
 
 use std::alloc::{AllocError, Allocator};
 
-/// Whether the byte stands for itself in XML.
+/// Whether `put_byte` appends the byte as it is: a line feed, or printable ASCII that isn't one of `"&'<>`.
 fn is_plain(byte: u8) -> bool
     ensures { result ≡ is_plain byte }
 {
     matches!(byte, b'\n' | b' '..=b'~') && !matches!(byte, b'"' | b'&' | b'\'' | b'<' | b'>')
 }
 
-/// What stands for a byte that doesn't stand for itself: an entity of XML, or `?`.
+/// What `put_byte` appends in place of a byte that isn't plain (see `is_plain`): an entity of XML, or `?`.
 fn stand_in(byte: u8) -> &'static str
     ensures { result.now ≡ stand_in byte }
 {
@@ -25,7 +25,8 @@ fn stand_in(byte: u8) -> &'static str
     }
 }
 
-/// Appends the byte as it stands in XML.
+/// Appends the byte, as an entity for each of `"&'<>`; `?` for a control other than a line feed, and for a byte that
+/// isn't ASCII.
 fn put_byte<A: Allocator>(text: &mut String<A>, byte: u8) -> Result<(), AllocError>
     ensures { OnOk result (string_bytes text.new ≡ string_bytes text.old ++ escape byte) }
 {

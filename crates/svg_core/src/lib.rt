@@ -1,7 +1,8 @@
 //! Appends trees of SVG elements to a growing text.
 //!
-//! It uses std alone. The modules in reading order: `escape`, texts as they stand in XML; `attribute`, the attributes
-//! of an element; `element`, whole elements and their ends; `laws`, that the text of an element is a document.
+//! The crate uses std alone. The modules in reading order: `escape`, texts as they stand in XML; `attribute`, the
+//! attributes of an element; `element`, beginnings, ends and whole elements; `laws`, that the text of an element is a
+//! document.
 #![tactic(auto)]
 
 mod attribute;

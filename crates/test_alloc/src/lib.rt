@@ -21,7 +21,7 @@ struct Requests {
 }
 
 /// An allocator that a test passes on as `&heap`: the reference is an allocator, too, and is `Copy`. A request is one
-/// call of `allocate`. A collection that grows makes one, and an empty collection makes none.
+/// call of `allocate`. A `Vec` that grows makes one, and an empty collection makes none.
 pub struct Refusing<B: Allocator> {
     inner: B,
     requests: Requests,

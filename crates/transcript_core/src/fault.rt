@@ -12,8 +12,8 @@ pub enum TranscriptFault {
     /// name that a script can't have.
     #[error("{fault}")]
     NoScript { fault: ScriptFault },
-    /// The lines of the calls are a script that asks for other calls than those recorded. For example, one of the names
-    /// of a recorded extract is no node's, and the line of the extract leaves that name out.
+    /// The lines of the calls are a script that names other nodes or asks for other calls than those recorded. For
+    /// example, one of the names of a recorded extract is no node's, and the line of the extract leaves that name out.
     #[error("OtherCalls")]
     OtherCalls,
     /// A request for memory was refused.

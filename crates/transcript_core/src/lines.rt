@@ -9,8 +9,8 @@ use payload_core::Oom;
 use report_core::{name_at, put_act};
 use std::alloc::Allocator;
 
-/// Appends the call as `NODE VERB ..`, `ACTOR undo NUMBER` or `ACTOR back NAME`, without a line feed. The name of an
-/// actor that doesn't exist is empty.
+/// Appends the call as `NODE VERB ..`, `ACTOR undo NUMBER` or `ACTOR back NAME`, without a line feed. NODE and NAME are
+/// empty if there is no such node, ACTOR if there is neither such a node nor such a console.
 #[tactic(auto, unfolding(crate::specs::Scripts::call_line))]
 pub fn put_call<A: Allocator, N: Allocator, C: Allocator, W: Allocator>(
     text: &mut String<A>,

@@ -118,8 +118,9 @@ pub fn calls_text<'a, A: Allocator, B: Allocator>(
     Ok(text)
 }
 
-/// The recorded calls of a bench as a script, in which the consoles have the names `consoles`. The text is read again:
-/// `NoScript` if it isn't a script, `OtherCalls` if it asks for other calls than those recorded.
+/// The recorded calls of a bench as a script, in which the consoles have the names `consoles`. A play of the script
+/// with the bench's limits leaves the same bench. The text is read again: `NoScript` if it isn't a script, `OtherCalls`
+/// if it names other nodes or asks for other calls than those recorded.
 pub fn script_of_calls<'a, B: Allocator>(
     bench: &Bench<'a, B>,
     alloc: &'a B,

@@ -16,7 +16,8 @@ use report_core::{act, name_at};
 use run_core::command as obey;
 use std::alloc::Allocator;
 
-/// If `reply` says that a step was taken back, notes `actor` in `takers` at the place of that step's number.
+/// If `reply` says that a step was taken back, notes `actor` in `takers` at the place of that step's number. Changes
+/// nothing after another reply, or if `takers` has no such place.
 fn note_reply<A: Allocator>(takers: &mut Vec<Option<u16>, A>, actor: u16, reply: Reply)
     ensures { takers.new.items ≡ with_reply takers.old.items actor reply }
 {
