@@ -1,5 +1,5 @@
-//! The program: it does what its words ask for with standard input, which has a script, a saved session or logs, and
-//! prints to standard output.
+//! The program: it does what the words of its command line ask for with standard input, which has a script, a saved
+//! session or logs, and prints to standard output.
 //!
 //! All of that stands in `program_core`, and what words choose in `command_line`.
 #![tactic(auto)]

@@ -21,8 +21,6 @@ use Rattle.transcript_core.specs.declared.fault.TranscriptFault.{TranscriptFault
 use Rattle.transcript_core.specs.declared.fault.TranscriptFault.TheVariants as transcripts
 use Rattle.grammar_core.specs.Scripts.{Script}
 use Rattle.grammar_core.specs.declared.fault.FaultKind.TheVariants as kinds
-use Rattle.script_core.specs.declared.play_fault.PlayFault.{PlayFault}
-use Rattle.script_core.specs.declared.play_fault.PlayFault.TheVariants as plays
 use Rattle.recording_core.specs.Sessions.{IsSession, Refuses}
 use Rattle.recording_core.specs.declared.session_fault.SessionFault.TheVariants as sessions
 use Rattle.stream_core.specs.Steps.{Steps}
@@ -103,12 +101,6 @@ fault_status faults.OutOfMemory = 4
 abbrev pub status_of : Result (Unit {0}) Fault → ℕ
 status_of (Ok _) = 0
 status_of (Err fault) = fault_status fault
-
-abbrev pub fault_of_play : PlayFault → Fault
-fault_of_play (plays.Script fault) = faults.Script fault
-fault_of_play plays.ReadFault = faults.ReadFault
-fault_of_play (plays.WriteFault written) = faults.WriteFault written
-fault_of_play plays.OutOfMemory = faults.OutOfMemory
 
 abbrev pub fault_of_race : RaceFault → Fault
 fault_of_race races.OutOfMemory = faults.OutOfMemory

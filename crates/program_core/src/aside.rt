@@ -45,7 +45,7 @@ impl Aside {
         }
     }
 
-    /// Prints the hint, if there is one and it can be written.
+    /// Prints the hint, if there is one, as far as it can be written.
     pub(crate) fn put<E: Write>(&self, errors: &mut E) {
         if let Some(hint) = &self.hint {
             let _ = errors.write_all(hint);

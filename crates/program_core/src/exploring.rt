@@ -40,7 +40,7 @@ pub fn asked_of<'w>(
 }
 
 /// The outcomes of what the network could have done; or, given the number of an `outcome`, a run that leads to it, as a
-/// script. Tells `watch` how far it has come.
+/// script. Tells `watch` how far the walk has come.
 pub fn tell_explored<'a, B: Allocator, W: Watch<Walked>>(
     bench: &mut Bench<'a, B>,
     alloc: &'a B,

@@ -1,4 +1,4 @@
-//! `Fault`: why the program ends with another status than 0, which status that is, and what it prints of it.
+//! `Fault`: why the program ends with another status than 0, which status that is, and what it prints about the fault.
 ghost use Rattle.std.specs.Prelude.{◌≡◌};
 ghost use Rattle.program_core.specs.Program.{fault_status};
 
@@ -7,7 +7,7 @@ use explore_report::ReportFault;
 use import_core::ImportFault;
 use picture_core::DrawFault;
 use prompt_core::PromptFault;
-use script_core::{PlayFault, ScriptFault};
+use script_core::ScriptFault;
 use session_core::SessionFault;
 use thiserror::Error;
 use transcript_core::TranscriptFault;
@@ -31,7 +31,7 @@ pub enum Refused {
 }
 
 /// Why the program ends with another status than 0, once it has read its words. It prints the fault's text on standard
-/// error, behind `presence_bench: `; for `Differs` it prints nothing there.
+/// error, behind `presence_bench: `, unless the fault is `Differs`.
 #[derive(Clone, Copy, Debug, PartialEq, Eq, Error)]
 pub enum Fault {
     /// The first fault of a script. It is never `OutOfMemory`.
@@ -52,7 +52,7 @@ pub enum Fault {
     /// A check found that the bench and the real nodes part. The whole text went out.
     #[error("the bench and the real nodes part")]
     Differs,
-    /// Why a race didn't begin, or can't be vouched for afterwards. It is never `OutOfMemory`.
+    /// Why a race didn't begin, couldn't start a worker, or can't be vouched for. It is never `OutOfMemory`.
     #[error("race: {0}")]
     Race(RaceFault),
     /// Why there is no exploration. It is never `OutOfMemory`.
@@ -122,22 +122,6 @@ impl Fault {
             Fault::Transcript(TranscriptFault::OutOfMemory) => 4,
             Fault::Race(RaceFault::WorkerRefused | RaceFault::LogsDisagree) => 5,
             Fault::Refused(_) => 6,
-        }
-    }
-}
-
-impl From<PlayFault> for Fault {
-    ghost use Rattle.std.specs.Prelude.{◌≡◌};
-    ghost use Rattle.program_core.specs.Program.{fault_of_play};
-
-    ghost from_gives = { λ fault given. given ≡ fault_of_play fault };
-
-    fn from(fault: PlayFault) -> Fault {
-        match fault {
-            PlayFault::Script(fault) => Fault::Script(fault),
-            PlayFault::ReadFault => Fault::ReadFault,
-            PlayFault::WriteFault { written } => Fault::WriteFault { written },
-            PlayFault::OutOfMemory => Fault::OutOfMemory,
         }
     }
 }

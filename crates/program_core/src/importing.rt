@@ -11,8 +11,7 @@ ghost use Rattle.program_core.specs.Program.{EndsAt, FailsAs, IsEarly, IsUnwritt
 use crate::aside::Aside;
 use crate::fault::Fault;
 use crate::pages::page_with;
-use crate::printing::print;
-use crate::text::{Text, bytes_of};
+use crate::text::{Text, bytes_of, print};
 use crate::texts::{LONGEST_SESSION, session_line};
 use bench_core::{Bench, Limits};
 use command_line::Form;
@@ -29,7 +28,7 @@ use std::sync::ledger::Ledger;
 fn read_events<'a, B: Allocator, R: Read, L: Ledger>(
     alloc: &'a B,
     reader: &mut R,
-    steps: &mut Steps<L>,
+    steps: &mut Steps<R, L>,
 ) -> Result<Vec<u8, &'a B>, Fault>
     ensures whole { IfOk result (λ bytes. IsWhole (R.remaining reader.old) bytes.items) }
     ensures cause { IfErr result (RefusesEventsAt (R.remaining reader.old)) }
@@ -77,7 +76,7 @@ fn put_full<A: Allocator>(text: &mut String<A>, full: bool) -> Result<(), Oom>
 }
 
 /// Writes the bytes to `errors`, as far as they can be written, and notes a failed write in `lost`.
-fn tell<E: Write>(errors: &mut E, bytes: &[u8], lost: &mut Lost)
+fn tell<E: Write>(errors: &mut E, bytes: &[u8], lost: &mut Lost<E>)
     ensures all { lost.new ≡ false → Appends (E.contents errors.old) (E.contents errors.new) bytes.now }
     ensures first { (count : ℕ) × Appends (E.contents errors.old) (E.contents errors.new) (take count bytes.now) }
 {
@@ -89,13 +88,13 @@ fn tell<E: Write>(errors: &mut E, bytes: &[u8], lost: &mut Lost)
 }
 
 /// Writes to `errors` a line for each number in `left_out`, and one more if the history is full (`full`). A failed
-/// write isn't a fault; `lost` notes it.
+/// write isn't a fault; `lost` notes it. If memory is refused, writes nothing.
 fn tell_missing<A: Allocator, E: Write>(
     alloc: A,
     errors: &mut E,
     left_out: &[u64],
     full: bool,
-    lost: &mut Lost,
+    lost: &mut Lost<E>,
 ) -> Result<(), Oom>
     ensures lines { TellsLines left_out.now full (E.contents errors.old) (E.contents errors.new) }
     ensures all { OnOk result (TellsAll left_out.now full lost.new (E.contents errors.old) (E.contents errors.new)) }
@@ -311,8 +310,8 @@ pub fn import_events<B: Allocator, R: Read, W: Write, E: Write, L: Ledger>(
     lenient: bool,
     form: Form,
     aside: &mut Aside,
-    lost: &mut Lost,
-    steps: &mut Steps<L>,
+    lost: &mut Lost<E>,
+    steps: &mut Steps<R, L>,
 ) -> Result<(), Fault>
     ensures ends { EndsAt (subcommands.Import check lines lenient) form limits (R.remaining reader.old) result (W.contents writer.old) (W.contents writer.new) }
     ensures read { OnOk result (IsAtEnd (R.remaining reader.new)) }

@@ -148,7 +148,7 @@ pub fn read_run<'a, B: Allocator, R: Read, L: Ledger>(
     reader: &mut R,
     limits: Limits,
     aside: &mut Aside,
-    steps: &mut Steps<L>,
+    steps: &mut Steps<R, L>,
 ) -> Result<Run<'a, B>, Fault>
     ensures run { IfOk result (λ run. IsRunAt limits (R.remaining reader.old) run.bench run.consoles) }
     ensures cause { IfErr result (RefusesBenchAt (R.remaining reader.old)) }
@@ -187,7 +187,7 @@ pub fn read_bench<'a, B: Allocator, R: Read, L: Ledger>(
     reader: &mut R,
     limits: Limits,
     aside: &mut Aside,
-    steps: &mut Steps<L>,
+    steps: &mut Steps<R, L>,
 ) -> Result<Bench<'a, B>, Fault>
     ensures bench { IfOk result (IsBenchAt limits (R.remaining reader.old)) }
     ensures cause { IfErr result (RefusesBenchAt (R.remaining reader.old)) }

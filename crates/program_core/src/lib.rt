@@ -9,7 +9,7 @@
 //! could have done), `progress_core` (how far long work has come), `stream_core` (the first bytes of an input) and
 //! `bench_core` (benches and limits). It names the plain types of the crates below.
 //!
-//! The modules in reading order: `fault` and `aside`, why the program ends early, and what to do about it; `text`,
+//! The modules in reading order: `fault` and `aside`, why the program ends as it does, and what to do about it; `text`,
 //! bytes to be printed; `texts`, a script or a session that is read; `inputs`, the run of what may be either; `racing`,
 //! what a race leaves; `exploring`, what the network could have done; `whatifs`, what would have made a difference;
 //! `importing`, what is made from logs; `stepping`, a prompt; `shown`, what is shown of a play; `pictures` and `pages`,

@@ -8,7 +8,7 @@ ghost use Rattle.program_core.specs.Views.{page_around, page_of, page_with};
 use crate::aside::Aside;
 use crate::fault::Fault;
 use crate::inputs::{Run, read_run};
-use crate::printing::print;
+use crate::text::print;
 use bench_core::{Bench, Limits, TextSet};
 use command_line::Form;
 use page_core::put_page;
@@ -69,7 +69,7 @@ pub fn page_run<B: Allocator, R: Read, W: Write, L: Ledger>(
     limits: Limits,
     form: Form,
     aside: &mut Aside,
-    steps: &mut Steps<L>,
+    steps: &mut Steps<R, L>,
 ) -> Result<(), Fault>
     ensures ends { EndsAt subcommands.Page form limits (R.remaining reader.old) result (W.contents writer.old) (W.contents writer.new) }
     ensures read { OnOk result (IsAtEnd (R.remaining reader.new)) }

@@ -8,7 +8,7 @@ ghost use Rattle.program_core.specs.Views.{presence_of, view_of};
 use crate::aside::Aside;
 use crate::fault::Fault;
 use crate::inputs::{Run, read_run};
-use crate::printing::print;
+use crate::text::print;
 use bench_core::Limits;
 use command_line::{Drawing, Form, Question};
 use picture_core::{Presence, View, draw};
@@ -60,7 +60,7 @@ pub fn draw_run<B: Allocator, R: Read, W: Write, L: Ledger>(
     form: Form,
     drawing: Drawing<'_>,
     aside: &mut Aside,
-    steps: &mut Steps<L>,
+    steps: &mut Steps<R, L>,
 ) -> Result<(), Fault>
     ensures ends { EndsAt (subcommands.Draw drawing.entry) form limits (R.remaining reader.old) result (W.contents writer.old) (W.contents writer.new) }
     ensures read { OnOk result (IsAtEnd (R.remaining reader.new)) }

@@ -6,7 +6,7 @@ ghost use Rattle.command_line.specs.declared.chosen.Form.TheVariants as forms;
 ghost use Rattle.command_line.specs.declared.chosen.Subcommand.TheVariants as subcommands;
 ghost use Rattle.progress_core.specs.Lines.{TellsTried, TellsWalked};
 ghost use Rattle.run_core.specs.Report.{history_text};
-ghost use Rattle.program_core.specs.Program.{EndsAt, EndsAsText, EndsSoon, FailsAs, IsEarly, IsReadBy, KeepsBefore, TellsMemory, TellsOn, TellsWhole, question_of};
+ghost use Rattle.program_core.specs.Program.{EndsAt, EndsSoon, FailsAs, IsEarly, IsReadBy, KeepsBefore, TellsMemory, TellsOn, TellsWhole, question_of};
 
 use crate::aside::Aside;
 use crate::exploring::{asked_of, tell_explored};
@@ -18,6 +18,7 @@ use crate::pictures::draw_run;
 use crate::racing::race_script;
 use crate::shown::{load_shown, play_shown};
 use crate::stepping::step_script;
+use crate::text::print;
 use crate::texts::{read_script, session_line};
 use crate::whatifs::tell_whatif;
 use bench_core::{Bench, Limits};
@@ -25,25 +26,13 @@ use command_line::{About, Choice, Form, Subcommand};
 use explain_core::{Question, explain_asked};
 use payload_core::Oom;
 use progress_core::Teller;
-use script_core::{Lost, Steps, report_history, write_out};
+use script_core::{Lost, Steps, report_history};
 use std::alloc::{Allocator, Global};
 use std::io::{Read, Write};
 use std::sync::Wait;
 use std::sync::ledger::Ledger;
 use std::thread::Threads;
 use std::time::Clock;
-
-/// Writes the whole text; `WriteFault` says how many of its bytes went out.
-pub(crate) fn print<W: Write>(writer: &mut W, text: &[u8]) -> Result<(), Fault>
-    ensures { EndsAsText text.now result (W.contents writer.old) (W.contents writer.new) }
-{
-    match write_out(writer, text) {
-        Ok(()) => Ok(()),
-        Err(fault) => Err(Fault::WriteFault {
-            written: fault.written,
-        }),
-    }
-}
 
 /// The report of what the bench recorded.
 fn history_of<'a, B: Allocator>(
@@ -66,7 +55,7 @@ fn race_report<B: Allocator + Sync, T: Threads + Wait + Sync, R: Read, W: Write,
     rt: &T,
     form: Form,
     aside: &mut Aside,
-    steps: &mut Steps<L>,
+    steps: &mut Steps<R, L>,
 ) -> Result<(), Fault>
     requires { form ≢ forms.Session }
     ensures ends { EndsAt subcommands.Race form limits (R.remaining reader.old) result (W.contents writer.old) (W.contents writer.new) }
@@ -99,7 +88,7 @@ fn race_session<B: Allocator + Sync, T: Threads + Wait + Sync, R: Read, W: Write
     writer: &mut W,
     limits: Limits,
     aside: &mut Aside,
-    steps: &mut Steps<L>,
+    steps: &mut Steps<R, L>,
 ) -> Result<(), Fault>
     ensures ends { EndsAt subcommands.Race forms.Session limits (R.remaining reader.old) result (W.contents writer.old) (W.contents writer.new) }
     ensures read { OnOk result (IsAtEnd (R.remaining reader.new)) }
@@ -142,7 +131,7 @@ fn explain_bench<B: Allocator, R: Read, W: Write, L: Ledger>(
     form: Form,
     question: command_line::Question<'_>,
     aside: &mut Aside,
-    steps: &mut Steps<L>,
+    steps: &mut Steps<R, L>,
 ) -> Result<(), Fault>
     ensures ends { EndsAt (subcommands.Explain question.entry) form limits (R.remaining reader.old) result (W.contents writer.old) (W.contents writer.new) }
     ensures read { OnOk result (IsAtEnd (R.remaining reader.new)) }
@@ -176,7 +165,7 @@ fn tell_changes<B: Allocator, R: Read, W: Write, L: Ledger, C: Clock, E: Write>(
     question: command_line::Question<'_>,
     change: Option<u64>,
     aside: &mut Aside,
-    steps: &mut Steps<L>,
+    steps: &mut Steps<R, L>,
     clock: &C,
     errors: &mut E,
 ) -> Result<(), Fault>
@@ -217,7 +206,7 @@ fn explore_bench<B: Allocator, R: Read, W: Write, L: Ledger, C: Clock, E: Write>
     states: usize,
     outcome: Option<u64>,
     aside: &mut Aside,
-    steps: &mut Steps<L>,
+    steps: &mut Steps<R, L>,
     clock: &C,
     errors: &mut E,
 ) -> Result<(), Fault>
@@ -269,8 +258,8 @@ pub fn answer<
     limits: Limits,
     terminal: bool,
     aside: &mut Aside,
-    lost: &mut Lost,
-    steps: &mut Steps<L>,
+    lost: &mut Lost<E>,
+    steps: &mut Steps<R, L>,
     clock: &C,
 ) -> Result<(), Fault>
     ensures ends { EndsAt choice.entry.command choice.entry.form limits (R.remaining reader.old) result (W.contents writer.old) (W.contents writer.new) }

@@ -14,8 +14,7 @@ ghost use Rattle.program_core.specs.Texts.{session_text, text_bytes};
 use crate::aside::Aside;
 use crate::fault::{Fault, Refused};
 use crate::inputs::consoles_of;
-use crate::printing::print;
-use crate::text::{Text, bytes_of};
+use crate::text::{Text, bytes_of, print};
 use crate::texts::{read_script, session_line, tell_session};
 use bench_core::{Bench, Limits, TextSet};
 use command_line::Form;
@@ -32,8 +31,8 @@ pub struct Shown<A: Allocator> {
     pub refused: Option<Refused>,
 }
 
-/// The report of a script with each line above what it printed. `bench` is what a play of the script with `limits`
-/// left.
+/// The report of a script with each line above what it printed. A play of the script with `limits` must have ended with
+/// `bench`.
 fn steps_of_script<'a, B: Allocator>(
     script: &Script<&'a B>,
     alloc: &'a B,
@@ -122,7 +121,7 @@ fn played_text<'a, B: Allocator>(
     text
 }
 
-/// What is printed in this form of a session that was played again.
+/// What is printed, in this form, of a session that was played again.
 fn told_text<'a, B: Allocator>(
     heap: Global,
     alloc: &'a B,
@@ -208,7 +207,7 @@ fn show_script<'a, B: Allocator>(
     Ok(Shown { text, refused })
 }
 
-/// What is shown in this form of a session that was played again.
+/// What is shown, in this form, of a session that was played again.
 fn show_session<'a, B: Allocator>(
     heap: Global,
     alloc: &'a B,
@@ -248,7 +247,7 @@ pub fn play_shown<B: Allocator, R: Read, W: Write, L: Ledger>(
     form: Form,
     strict: bool,
     aside: &mut Aside,
-    steps: &mut Steps<L>,
+    steps: &mut Steps<R, L>,
 ) -> Result<(), Fault>
     ensures ends { EndsAt (subcommands.Play strict) form limits (R.remaining reader.old) result (W.contents writer.old) (W.contents writer.new) }
     ensures read { OnOk result (IsAtEnd (R.remaining reader.new)) }
@@ -279,7 +278,7 @@ pub fn load_shown<B: Allocator, R: Read, W: Write, L: Ledger>(
     form: Form,
     strict: bool,
     aside: &mut Aside,
-    steps: &mut Steps<L>,
+    steps: &mut Steps<R, L>,
 ) -> Result<(), Fault>
     ensures ends { EndsAt (subcommands.Load strict) form limits (R.remaining reader.old) result (W.contents writer.old) (W.contents writer.new) }
     ensures read { OnOk result (IsAtEnd (R.remaining reader.new)) }

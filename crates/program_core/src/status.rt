@@ -73,7 +73,8 @@ fn input_line(heap: Global, command: Subcommand<'_>) -> Result<String, Oom>
     Ok(format!(in heap; "presence_bench: reads standard input: presence_bench {word} < FILE\n")?)
 }
 
-/// Says on `errors` that the subcommand reads standard input, which is a terminal. A failed write isn't a fault.
+/// Says on `errors` that the subcommand reads standard input, which is a terminal. Says nothing if memory is refused;
+/// neither that nor a failed write is a fault.
 fn tell_input<E: Write>(heap: Global, command: Subcommand<'_>, errors: &mut E)
     ensures { TellsInput command.entry (E.contents errors.old) (E.contents errors.new) }
 {
@@ -116,8 +117,8 @@ fn answer_on<
     limits: Limits,
     terminal: bool,
     aside: &mut Aside,
-    lost: &mut Lost,
-    steps: &mut Steps<L>,
+    lost: &mut Lost<E>,
+    steps: &mut Steps<R, L>,
     clock: &C,
 ) -> Result<(), Fault>
     ensures ends { EndsAt choice.entry.command choice.entry.form limits (R.remaining reader.old) result (W.contents writer.old) (W.contents writer.new) }
@@ -139,7 +140,7 @@ fn answer_on<
     )
 }
 
-/// Does what was chosen, and gives the status. Prints a fault and its hint on `errors`, as `tell_fault` does.
+/// Does what `answer_on` does, and gives the status. Prints a fault and its hint on `errors`, as `tell_fault` does.
 fn run_choice<
     B: Allocator + Sync,
     T: Threads + Wait + Sync,
@@ -158,8 +159,8 @@ fn run_choice<
     errors: &mut E,
     limits: Limits,
     terminal: bool,
-    lost: &mut Lost,
-    steps: &mut Steps<L>,
+    lost: &mut Lost<E>,
+    steps: &mut Steps<R, L>,
     clock: &C,
 ) -> u8
     ensures exits { Exits choice.entry (R.remaining reader.old) (R.remaining reader.new) limits result (W.contents writer.old) (W.contents writer.new)
@@ -206,7 +207,7 @@ const FILE_HINT: &str =
     "hint: the input is read from standard input; put < before the name of a file\n";
 
 /// Prints what is wrong with the words. If that is a word too many which doesn't begin with `-`, prints a hint, too,
-/// since such a word may be the name of a file.
+/// since such a word may be the name of a file. Prints nothing if memory is refused.
 fn tell_words<E: Write>(heap: Global, fault: &clap::Error, errors: &mut E) {
     let Ok(text) = format!(in heap; "{fault}") else {
         return;
@@ -264,8 +265,8 @@ pub fn program_counted<
     errors: &mut E,
     limits: Limits,
     terminal: bool,
-    lost: &mut Lost,
-    steps: &mut Steps<L>,
+    lost: &mut Lost<E>,
+    steps: &mut Steps<R, L>,
     clock: &C,
 ) -> u8
     ensures ends { EndsProgram (map S.text words.now) (R.remaining reader.old) (R.remaining reader.new) limits result (W.contents writer.old)
@@ -283,8 +284,8 @@ pub fn program_counted<
 }
 
 /// Like `program_counted`, but makes the count itself, with the ledger of `blank`, and drops the count and what `lost`
-/// notes. The words stand behind a second reference, since beside a `Blank` a reference must be to a type that is
-/// `Sized`.
+/// notes. The words stand behind a second reference, since a function that takes a `Blank` may take references to
+/// `Sized` types alone.
 fn program_from<
     S: AsStr,
     B: Allocator + Sync,
@@ -314,7 +315,7 @@ fn program_from<
         (W.contents writer.old) (W.contents writer.new) before after }
     ensures quiet { result ≡ 0 → IsQuietOn terminal limits (map S.text words.now.now) (R.remaining reader.old) (E.contents errors.old) (E.contents errors.new) }
 {
-    let mut steps = Steps::<L>::new(blank);
+    let mut steps = Steps::<R, L>::new(blank);
     let mut lost = Lost::nothing();
     program_counted(
         rt, heap, alloc, *words, reader, writer, errors, limits, terminal, &mut lost, &mut steps,

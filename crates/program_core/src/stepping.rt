@@ -35,7 +35,7 @@ pub fn step_script<B: Allocator, R: Read, W: Write, E: Write, L: Ledger>(
     errors: &mut E,
     limits: Limits,
     terminal: bool,
-    steps: &mut Steps<L>,
+    steps: &mut Steps<R, L>,
 ) -> Result<(), Fault>
     ensures ends { (form : Form) → EndsAt subcommands.Step form limits (R.remaining reader.old) result (W.contents writer.old) (W.contents writer.new) }
     ensures read { OnOk result (IsRead (R.remaining reader.old) (R.remaining reader.new)) }

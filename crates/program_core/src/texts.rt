@@ -29,7 +29,7 @@ pub fn read_script<'a, B: Allocator, R: Read, L: Ledger>(
     alloc: &'a B,
     reader: &mut R,
     aside: &mut Aside,
-    steps: &mut Steps<L>,
+    steps: &mut Steps<R, L>,
 ) -> Result<Script<&'a B>, Fault>
     ensures script { IfOk result (λ script. IsScriptAt (R.remaining reader.old) (plain_script script)) }
     ensures cause { IfErr result (RefusesScriptAt (R.remaining reader.old)) }
@@ -65,7 +65,7 @@ pub fn read_script<'a, B: Allocator, R: Read, L: Ledger>(
 fn session_input<'a, B: Allocator, R: Read, L: Ledger>(
     alloc: &'a B,
     reader: &mut R,
-    steps: &mut Steps<L>,
+    steps: &mut Steps<R, L>,
 ) -> Result<Vec<u8, &'a B>, Fault>
     ensures whole { IfOk result (λ bytes. IsWhole (R.remaining reader.old) bytes.items) }
     ensures cause { IfErr result (RefusesSessionAt (R.remaining reader.old)) }
@@ -89,7 +89,7 @@ pub fn tell_session<'a, B: Allocator, R: Read, L: Ledger>(
     alloc: &'a B,
     reader: &mut R,
     aside: &mut Aside,
-    steps: &mut Steps<L>,
+    steps: &mut Steps<R, L>,
 ) -> Result<Played<'a, B>, Fault>
     ensures session { IfOk result (λ told. IsSessionAt (R.remaining reader.old) told.bench) }
     ensures report { IfOk result (λ told. told.report.items ≡ history_text told.bench) }

@@ -20,7 +20,7 @@ fn question_of<'w>(chosen: command_line::Question<'w>) -> Question<'w>
 }
 
 /// The changes that would have made a difference; or, given the number of a `change`, the run with that change, as a
-/// script. Tells `watch` how far it has come.
+/// script. Tells `watch` how many changes were tried.
 pub fn tell_whatif<'a, B: Allocator, W: Watch<Tried>>(
     bench: &mut Bench<'a, B>,
     alloc: &'a B,

@@ -1,8 +1,8 @@
 //! Watches how far long work has come, and prints that as lines.
 //!
-//! It stands on `stream_core` alone. The modules in reading order: `work`, how far work has come; `watch`, who watches
-//! it; `line`, the line that says how far it has come; `pace`, when a line is due; `teller`, who prints lines; `fakes`,
-//! a clock for tests.
+//! The crate stands on `stream_core` alone. The modules in reading order: `work`, how far work has come; `watch`, who
+//! watches it; `line`, the line that says how far it has come; `pace`, when a line is due; `teller`, who prints lines;
+//! `fakes`, a clock for tests.
 #![tactic(auto)]
 
 mod fakes;

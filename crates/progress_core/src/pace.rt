@@ -25,7 +25,8 @@ impl<'t, C: Clock> Pace<'t, C> {
     }
 
     /// Whether a second has passed since a line was last due, or since the beginning; no if the clock can't be read. A
-    /// look at the clock takes longer than some work, so only each sixteenth call takes one, and the others say no.
+    /// look at the clock may take longer than a piece of work, so only each sixteenth call looks, and the others say
+    /// no.
     pub(crate) fn is_due(&mut self) -> bool {
         if self.calls < PASSED {
             self.calls += 1;

@@ -12,7 +12,7 @@ use std::time::Clock;
 use stream_core::write_out;
 
 /// Prints lines that say how far work has come: at most one a second, and none in the first second. After a line that
-/// couldn't be written it prints no more; a line for which there is no memory is left out.
+/// couldn't be written, it prints no more; a line for which there is no memory is left out.
 #[derive(Drop)]
 pub struct Teller<'t, C, E> {
     heap: Global,

@@ -1,8 +1,8 @@
 //! `Watch`: who hears how far work has come.
 ghost use Rattle.progress_core.specs.Watches.{Watched};
 
-/// A watcher. After each piece, long work tells the watcher by a `P` how far the work has come. `told` says how the
-/// watcher may change from one time to a later one.
+/// A watcher. After each piece, long work tells its watcher, with a value of type `P`, how far the work has come.
+/// `told` says how the watcher may change from one time to a later one.
 pub trait Watch<P: Copy> {
     ghost told: { Self → Self → Type 0 };
 

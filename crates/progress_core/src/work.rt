@@ -7,8 +7,8 @@ pub struct Tried {
     pub all: usize,
 }
 
-/// How many states a walk has kept, how many outcomes it has found, and how many steps may still come from the state
-/// where it is.
+/// How many states a walk has kept, how many outcomes it has found, and how many steps at most can still follow, one
+/// after another, from where the walk is.
 #[derive(Clone, Copy, Debug, PartialEq, Eq)]
 pub struct Walked {
     pub states: usize,

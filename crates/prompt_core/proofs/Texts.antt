@@ -8,20 +8,20 @@ use Rattle.run_core.specs.Prompts.{Prompt, answered, taken}
 use Rattle.grammar_core.specs.Words.{is_text, words_of}
 use Rattle.grammar_core.specs.declared.fault.FaultKind.{FaultKind}
 use Rattle.grammar_core.specs.declared.fault.FaultKind.TheVariants.{NoNodes, NotText, OutOfMemory, TooLong}
-use Rattle.prompt_core.specs.Answers.{changes, changes_at, explained, explained_at, fault_line, is_first, sent_at, told_by, told_sent}
+use Rattle.prompt_core.specs.Answers.{changes, changes_at, explained, explained_at, fault_line, may_be_own, sent_at, told_by, told_sent}
 
 of_line : (reading : Reading) (line : List ℕ) (long text : Bool) (kind : FaultKind) → is_text line ≡ text →
-    (if long then Err TooLong else (if not text then Err NotText else with_words reading 0 (words_of line))) ≡ Err kind → is_first kind ≡ true →
+    (if long then Err TooLong else (if not text then Err NotText else with_words reading 0 (words_of line))) ≡ Err kind → may_be_own kind ≡ true →
     is_text line ≡ true
-of_line reading line true text kind is refused first_one = let same : TooLong ≡ kind = cc in absurd (cc (ap is_first same, first_one))
-of_line reading line false false kind is refused first_one = let same : NotText ≡ kind = cc in absurd (cc (ap is_first same, first_one))
+of_line reading line true text kind is refused first_one = let same : TooLong ≡ kind = cc in absurd (cc (ap may_be_own same, first_one))
+of_line reading line false false kind is refused first_one = let same : NotText ≡ kind = cc in absurd (cc (ap may_be_own same, first_one))
 of_line reading line false true kind is refused first_one = is
 
 of_reading : (prompt : Prompt) (text : List ℕ) (read : Result Reading FaultKind) (kind : FaultKind) → answered prompt text read ≡ Err kind → read ≡ Err kind
 of_reading prompt text (Ok reading) kind refused = absurd (cc)
 of_reading prompt text (Err fault) kind refused = let same : fault ≡ kind = cc in ap Err same
 
-is_line_text : (prompt : Prompt) (text line : List ℕ) (kind : FaultKind) → taken prompt text line ≡ Err kind → is_first kind ≡ true → is_text line ≡ true
+is_line_text : (prompt : Prompt) (text line : List ℕ) (kind : FaultKind) → taken prompt text line ≡ Err kind → may_be_own kind ≡ true → is_text line ≡ true
 unfolding taken with_line
 is_line_text prompt text line kind refused first_one =
     let reading : Reading = record { cast = prompt.cast; lines = [] } in
@@ -30,9 +30,9 @@ is_line_text prompt text line kind refused first_one =
 
 -- so, by what is answered of it, want of memory apart
 pub is_own_text : (prompt : Prompt) (text line : List ℕ) (kind : FaultKind) → (kind ≢ OutOfMemory → taken prompt text line ≡ Err kind) →
-    is_first kind ≡ true → is_text line ≡ true
+    may_be_own kind ≡ true → is_text line ≡ true
 is_own_text prompt text line kind refused first_one =
-    is_line_text prompt text line kind (refused (λ memory. let none : is_first kind ≡ false = ap is_first memory in cc (none, first_one))) first_one
+    is_line_text prompt text line kind (refused (λ memory. let none : may_be_own kind ≡ false = ap may_be_own memory in cc (none, first_one))) first_one
 
 -- three words ask for the explanation at the first, of the other two
 pub three_words : (number : ℕ) (machine : Option Machine) (m : Machine) (words : List (Bor (List ℕ))) (d : Bor (List ℕ)) → Some m ≡ machine →

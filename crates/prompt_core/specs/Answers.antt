@@ -124,15 +124,15 @@ worded help prompt number kind (first ∷ words) =
     else run_word prompt number kind first words))))
 
 -- whether the fault is about the first word
-abbrev pub is_first : FaultKind → Bool
-is_first UnknownWord = true
-is_first NoNodes = true
-is_first _ = false
+abbrev pub may_be_own : FaultKind → Bool
+may_be_own UnknownWord = true
+may_be_own NoNodes = true
+may_be_own _ = false
 
 -- the answer to a line that has this fault in a script: to one of the prompt's own lines what it asks, to any other the fault
 unfoldable pub own_answer : List ℕ → Prompt → ℕ → List ℕ → FaultKind → List ℕ
 own_answer help prompt number line kind =
-    if is_first kind then worded help prompt number kind (words_of line) else fault_line number kind
+    if may_be_own kind then worded help prompt number kind (words_of line) else fault_line number kind
 
 abbrev pub answer_by : List ℕ → Prompt → ℕ → List ℕ → Result (Prompt × List ℕ) FaultKind → Prompt × List ℕ
 answer_by help prompt number line (Ok next) = next

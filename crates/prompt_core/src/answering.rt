@@ -9,8 +9,9 @@ use run_core::Prompt;
 use std::alloc::{Allocator, Global};
 
 /// Takes a line at the prompt, and gives what is to be printed: what a script's line prints, what a line of the
-/// prompt's own asks for, or the line's fault. Only a script's line without a fault changes the prompt. `number` is the
-/// number of the line, and `help` what `:help` prints. The session that `:save` prints takes its memory from `heap`.
+/// prompt's own asks for, or the line's fault. Only a script's line changes the prompt: one without a fault, or perhaps
+/// one for which memory was refused. `number` is the number of the line, and `help` what `:help` prints. The session
+/// that `:save` prints takes its memory from `heap`.
 #[tactic(auto, unfolding(crate::specs::Answers::answer))]
 pub fn answer<'a, B: Allocator>(
     prompt: &mut Prompt<'a, B>,

@@ -3,7 +3,7 @@
 ghost use Rattle.std.specs.Prelude.{◌≡◌, ◌++◌, [], OnOk, codes, map, true};
 ghost use Rattle.bench_core.specs.NameList.{number_in};
 ghost use Rattle.grammar_core.specs.Words.{is_text};
-ghost use Rattle.prompt_core.specs.Answers.{alone, changes, changes_at, explained, explained_at, is_first, own_answer, saved, worded};
+ghost use Rattle.prompt_core.specs.Answers.{alone, changes, changes_at, explained, explained_at, may_be_own, own_answer, saved, worded};
 
 use crate::fault_line::{put_fault, put_text};
 use crate::runs::put_run;
@@ -87,8 +87,8 @@ fn put_save<'a, B: Allocator>(
     put_fault(alloc, answer, number, FaultKind::WrongCount)
 }
 
-/// Appends the explanation for `question`; `BadName` if no node has the name that the question gives, `TooLong` if the
-/// topic or the key isn't a word.
+/// Appends the explanation for `question`; `BadName` if no node has the name that the question gives; else `TooLong` if
+/// the topic or the key isn't a word.
 fn put_explanation<'a, B: Allocator>(
     bench: &Bench<'a, B>,
     alloc: &'a B,
@@ -108,7 +108,7 @@ fn put_explanation<'a, B: Allocator>(
 }
 
 /// Like `put_explanation`, for the question that the words after `:explain` (`words`) ask; `NoNodes` before the nodes
-/// are named, `WrongCount` unless there are three words.
+/// are named; else `WrongCount` unless there are three words.
 #[tactic(auto, unfolding(crate::specs::Answers::explained))]
 fn put_explained<'a, B: Allocator>(
     prompt: &Prompt<'a, B>,
@@ -130,7 +130,7 @@ fn put_explained<'a, B: Allocator>(
 }
 
 /// Appends which single changes would have made a difference to the rows of `question`; `BadName` if no node has the
-/// name that the question gives, `TooLong` if the topic or the key isn't a word.
+/// name that the question gives; else `TooLong` if the topic or the key isn't a word.
 fn put_whatif<'a, B: Allocator>(
     bench: &Bench<'a, B>,
     alloc: &'a B,
@@ -152,7 +152,7 @@ fn put_whatif<'a, B: Allocator>(
 }
 
 /// Like `put_whatif`, for the question that the words after `:whatif` (`words`) ask; `NoNodes` before the nodes are
-/// named, `WrongCount` unless there are three words.
+/// named; else `WrongCount` unless there are three words.
 #[tactic(auto, unfolding(crate::specs::Answers::changes))]
 fn put_changes<'a, B: Allocator>(
     prompt: &Prompt<'a, B>,
@@ -211,14 +211,15 @@ fn put_worded<'a, B: Allocator>(
 
 /// Whether a line with this fault may be one of the prompt's own. A script refuses the prompt's own lines with
 /// `NoNodes` before the nodes are named, and with `UnknownWord` after that.
-fn is_first(kind: FaultKind) -> bool
-    ensures { result ≡ is_first kind }
+fn may_be_own(kind: FaultKind) -> bool
+    ensures { result ≡ may_be_own kind }
 {
     matches!(kind, FaultKind::UnknownWord | FaultKind::NoNodes)
 }
 
-/// Appends the answer to a line that a script would refuse with the fault `kind`: what the line asks for, if `is_first`
-/// holds of `kind` and the line is one of the prompt's own; else the fault. If `is_first` holds, the line must be text.
+/// Appends the answer to a line that a script would refuse with the fault `kind`: what the line asks for, if
+/// `may_be_own` holds of `kind` and the line is one of the prompt's own; else the fault. If `may_be_own` holds, the
+/// line must be text.
 #[tactic(auto, unfolding(crate::specs::Answers::own_answer))]
 pub fn put_own<'a, B: Allocator>(
     prompt: &Prompt<'a, B>,
@@ -230,10 +231,10 @@ pub fn put_own<'a, B: Allocator>(
     line: &[u8],
     kind: FaultKind,
 ) -> Result<(), Oom>
-    requires { is_first kind ≡ true → is_text line.now ≡ true }
+    requires { may_be_own kind ≡ true → is_text line.now ≡ true }
     ensures { OnOk result (answer.new.items ≡ answer.old.items ++ own_answer help.now prompt.now number line.now kind) }
 {
-    if !is_first(kind) {
+    if !may_be_own(kind) {
         return put_fault(alloc, answer, number, kind);
     }
     let Ok(text) = str::from_utf8(line) else {

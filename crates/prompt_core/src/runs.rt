@@ -161,7 +161,7 @@ fn put_sent_at<'a, B: Allocator>(
 }
 
 /// Like `put_sent_at`, for the node named by the one word in `words`, the words after `:sent`; `NoNodes` before the
-/// nodes are named, `WrongCount` unless there is one word.
+/// nodes are named; else `WrongCount` unless there is one word.
 #[tactic(auto, unfolding(crate::specs::Answers::told_sent))]
 fn put_told_sent<'a, B: Allocator>(
     prompt: &Prompt<'a, B>,

@@ -39,18 +39,18 @@ fn put_entry<A: Allocator, N: Allocator, W: Allocator>(
 ) -> Result<(), Oom>
     ensures { OnOk result (string_bytes text.new ≡ string_bytes text.old ++ row_line (codes "= ") names.now (row_of (pair_of entry.now))) }
 {
-    let topic = entry.topic.as_str();
-    let key = entry.key.as_str();
+    let topic = entry.topic().as_str();
+    let key = entry.key().as_str();
     let node = name_at(names, entry.dot.name);
     let pid = entry.pid;
-    let metadata = entry.metadata.as_str();
+    let metadata = entry.metadata().as_str();
     text.push_str("= ")?;
     // form: split in two for the proof
     write!(text, "{topic} {key} ")?;
     Ok(writeln!(text, "{node}/{pid} {metadata}")?)
 }
 
-/// Appends the rows of the entries by rising dot, each as a line after `= `.
+/// Appends the row of each entry, by rising dot (see `put_entry`).
 fn put_entries<'a, A: Allocator, B: Allocator, N: Allocator>(
     entries: &EntrySet<&'a B>,
     text: &mut String<A>,

@@ -13,6 +13,7 @@ use crate::prompt_fault::PromptFault;
 use crate::quit::is_quit;
 use crate::signs::show_sign;
 use bench_core::Limits;
+use grammar_core::LONGEST_LINE;
 use run_core::Prompt;
 use std::alloc::{Allocator, Global};
 use std::io;
@@ -21,8 +22,8 @@ use std::marker::Brand;
 use std::sync::ledger::{Blank, Ledger};
 use stream_core::{Steps, next_line};
 
-/// The most bytes of a line that are kept. A line of a script has fewer, so a line with this many bytes is too long.
-const KEPT: usize = 4097;
+/// How many bytes of a line are kept at most. A line of a script has fewer, so a line with this many bytes is too long.
+const KEPT: usize = LONGEST_LINE + 1;
 
 /// Answers each line before it reads the next, to the end of the input or a line that ends the prompt. The prompt must
 /// have taken no line yet. If `has_signs`, shows a sign on `errors` before it reads each line, until `show_sign` fails
@@ -36,7 +37,7 @@ fn answer_each<'a, B: Allocator, R: Read, W: Write, E: Write, L: Ledger>(
     errors: &mut E,
     help: &str,
     has_signs: bool,
-    steps: &mut Steps<L>,
+    steps: &mut Steps<R, L>,
 ) -> Result<(), PromptFault>
     requires { prompt.old ≡ new_prompt prompt.old.limits }
     ensures answers { OnOk result (Answers help.now prompt.old.limits (R.remaining reader.old) (W.contents writer.old) (W.contents writer.new)) }
@@ -77,7 +78,7 @@ pub fn step_counted<B: Allocator, R: Read, W: Write, E: Write, L: Ledger>(
     limits: Limits,
     help: &str,
     has_signs: bool,
-    steps: &mut Steps<L>,
+    steps: &mut Steps<R, L>,
 ) -> Result<(), PromptFault>
     ensures answers { OnOk result (Answers help.now limits (R.remaining reader.old) (W.contents writer.old) (W.contents writer.new)) }
     ensures report { OnOk result (Reports limits (R.remaining reader.old) (W.contents writer.old) (W.contents writer.new)) }
@@ -128,7 +129,7 @@ fn step_from<B: Allocator, R: Read, W: Write, L: Ledger>(
     ensures early { IfErr result (λ fault. EndsEarly help.now.now limits fault (R.remaining reader.old) (R.remaining reader.new)
         (W.contents writer.old) (W.contents writer.new)) }
 {
-    let mut steps = Steps::<L>::new(blank);
+    let mut steps = Steps::<R, L>::new(blank);
     step_counted(
         heap,
         alloc,

@@ -11,7 +11,7 @@ pub enum PlayFault {
     /// A read failed.
     #[error("read fault")]
     ReadFault,
-    /// A write failed or took nothing. Exactly the first `written` bytes of the report went out.
+    /// A write failed or took nothing. Exactly the first `written` bytes of the report went out; the report has more.
     #[error("write fault")]
     WriteFault { written: usize },
     /// A request for memory was refused.

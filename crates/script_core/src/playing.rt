@@ -21,7 +21,7 @@ pub fn play_counted<B: Allocator, R: Read, W: Write, L: Ledger>(
     reader: &mut R,
     writer: &mut W,
     limits: Limits,
-    steps: &mut Steps<L>,
+    steps: &mut Steps<R, L>,
 ) -> Result<(), PlayFault>
     ensures ends { EndsAt (R.remaining reader.old) limits result (W.contents writer.old) (W.contents writer.new) }
     ensures read { OnOk result (IsAtEnd (R.remaining reader.new)) }
@@ -64,7 +64,7 @@ pub fn play_counted<B: Allocator, R: Read, W: Write, L: Ledger>(
     }
 }
 
-/// Like `play_counted`, but makes the count itself, with the ledger of `blank`, and drops it.
+/// Like `play_counted`, but makes the count itself, with the ledger of `blank`, and drops the count.
 fn play_from<B: Allocator, R: Read, W: Write, L: Ledger>(
     alloc: &B,
     reader: &mut R,
@@ -80,7 +80,7 @@ fn play_from<B: Allocator, R: Read, W: Write, L: Ledger>(
     ensures unwritten { IfErr result (λ fault. KeepsBefore fault (W.contents writer.old) (W.contents writer.new)) }
     ensures memory { IfErr result TellsMemory }
 {
-    let mut steps = Steps::<L>::new(blank);
+    let mut steps = Steps::<R, L>::new(blank);
     play_counted(alloc, reader, writer, limits, &mut steps)
 }
 

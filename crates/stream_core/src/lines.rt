@@ -14,7 +14,7 @@ use std::sync::ledger::Ledger;
 /// Reads the next byte; `None` at the end of the input. A failed read isn't tried again.
 fn next_byte<R: Read, L: Ledger>(
     reader: &mut R,
-    steps: &mut Steps<L>,
+    steps: &mut Steps<R, L>,
 ) -> Result<Option<u8>, InputFault>
     ensures some { IfOk result (λ byte. IfSome byte (λ byte. Consumes (R.remaining reader.old) (R.remaining reader.new) (byte ∷ []))) }
     ensures none { result ≡ Ok None → IsAtEnd (R.remaining reader.new) }
@@ -38,7 +38,7 @@ pub fn next_line<A: Allocator, R: Read, L: Ledger>(
     alloc: A,
     reader: &mut R,
     most: usize,
-    steps: &mut Steps<L>,
+    steps: &mut Steps<R, L>,
 ) -> Result<Option<Vec<u8, A>>, InputFault>
     requires { 0 < most }
     ensures next { IfOk result (λ line. IsNext most (R.remaining reader.old) (R.remaining reader.new) (option_map vec_items line)) }

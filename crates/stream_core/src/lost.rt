@@ -1,19 +1,21 @@
-//! `Lost`: notes for contracts whether a write failed, where the program goes on as if none had.
+//! `Lost`: remembers whether a write failed, so that contracts can say so where the program goes on in spite of it.
 ghost use Rattle.std.specs.Prelude.{◌≡◌, ◌<◌, ◌≤◌, false, length, take, IfSome, None};
 ghost use Rattle.std.specs.Io.KnownBytes.{Appends, Keeps};
 ghost use Rattle.stream_core.specs.Lost.{lost_by};
 
 use std::io::Write;
-use std::marker::Model;
+use std::marker::{Model, PhantomData};
 
-/// Whether a call of `write` failed or took nothing, so that the rest of the bytes is lost. Only `write_once` notes it,
-/// and nothing takes it back.
-#[derive(Drop, Debug)]
-pub struct Lost {
+/// Whether bytes are lost because a write of them to a `W` failed or took none of them. Only `write_once` notes it, and
+/// nothing takes it back. A function that is generic over `W`, and is lent one `W`, has no other writer of this type.
+/// So a loss that the function notes is a loss at that writer.
+#[derive(Drop)]
+pub struct Lost<W> {
     any: bool,
+    by: PhantomData<*const W>,
 }
 
-impl Model for Lost {
+impl<W> Model for Lost<W> {
     ghost use Rattle.std.specs.Prelude.{Bool};
 
     ghost Value = { Bool };
@@ -21,15 +23,18 @@ impl Model for Lost {
     ghost view = { λ l. l.any };
 }
 
-impl Lost {
+impl<W> Lost<W> {
     /// Nothing is lost yet.
-    pub fn nothing() -> Lost
+    pub fn nothing() -> Lost<W>
         ensures { result ≡ false }
     {
-        Lost { any: false }
+        Lost {
+            any: false,
+            by: PhantomData,
+        }
     }
 
-    /// Whether a write failed or took nothing.
+    /// Whether bytes are lost.
     pub fn is_any(&self) -> bool
         ensures { result ≡ self.now }
     {
@@ -37,9 +42,10 @@ impl Lost {
     }
 }
 
-/// Makes one call of `write`, and gives how many of the bytes it took. If it failed or took nothing, gives `None`, and
-/// notes that in `lost`.
-pub fn write_once<W: Write>(writer: &mut W, bytes: &[u8], lost: &mut Lost) -> Option<usize>
+/// Makes one call of `write`, and gives how many of the bytes the writer took. If the call failed or the writer took
+/// none, gives `None`, and notes in `lost` that bytes are lost.
+pub fn write_once<W: Write>(writer: &mut W, bytes: &[u8], lost: &mut Lost<W>) -> Option<usize>
+    requires { 0 < length bytes.now }
     ensures some { IfSome result (λ count. 0 < count) }
     ensures bound { IfSome result (λ count. count ≤ length bytes.now) }
     ensures bytes { IfSome result (λ count. Appends (W.contents writer.old) (W.contents writer.new) (take count bytes.now)) }

@@ -8,19 +8,21 @@ ghost use Rattle.stream_core.specs.declared.stream_fault.InputFault.TheVariants.
 
 use crate::stream_fault::InputFault;
 use std::io::Read;
-use std::marker::Model;
+use std::marker::{Model, PhantomData};
 use std::sync::ledger::{Blank, Book, Ledger, Share};
 
-/// How many calls of `read` were made, and how many of them failed, both booked in the ledger `L`. Only `read_once`
-/// adds to them.
+/// How many calls of `read` were made on an `R`, and how many of them failed, both booked in the ledger `L`. Only
+/// `read_once` adds to them. A function that is generic over `R`, and is lent one `R`, has no other reader of this
+/// type. So the calls that the function counts are calls on that reader.
 #[derive(Drop)]
-pub struct Steps<L: Ledger> {
+pub struct Steps<R, L: Ledger> {
     book: Book<L>,
     given: Share<L>,
     missed: Share<L>,
+    on: PhantomData<*const R>,
 }
 
-impl<L: Ledger> Model for Steps<L> {
+impl<R, L: Ledger> Model for Steps<R, L> {
     ghost use Rattle.std.specs.Prelude.{◌<◌};
     ghost use Rattle.stream_core.specs.Steps.{Steps};
 
@@ -31,10 +33,10 @@ impl<L: Ledger> Model for Steps<L> {
     ghost invariant = { λ s. (0 < s.given.parts) × (0 < s.missed.parts) };
 }
 
-impl<L: Ledger> Steps<L> {
+impl<R, L: Ledger> Steps<R, L> {
     /// A count before the first call. The ledger of `blank` has two parts: one for calls that succeed, one for calls
     /// that fail.
-    pub fn new(blank: Blank) -> Steps<L>
+    pub fn new(blank: Blank) -> Steps<R, L>
         requires name { blank.name ≡ L.name }
         requires parts { blank.parts ≡ L.parts }
         requires two { blank.parts ≡ 2 }
@@ -47,6 +49,7 @@ impl<L: Ledger> Steps<L> {
             book,
             given,
             missed,
+            on: PhantomData,
         }
     }
 
@@ -71,7 +74,7 @@ impl<L: Ledger> Steps<L> {
 pub fn read_once<R: Read, L: Ledger>(
     reader: &mut R,
     buffer: &mut [u8],
-    steps: &mut Steps<L>,
+    steps: &mut Steps<R, L>,
 ) -> Result<usize, InputFault>
     ensures bound { ReadsAtMost result buffer.new }
     ensures bytes { ReadConsumes (R.remaining reader.old) (R.remaining reader.new) result buffer.new }

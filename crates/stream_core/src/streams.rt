@@ -22,7 +22,7 @@ pub fn read_front<A: Allocator, R: Read, L: Ledger>(
     alloc: A,
     reader: &mut R,
     most: usize,
-    steps: &mut Steps<L>,
+    steps: &mut Steps<R, L>,
 ) -> Result<Vec<u8, A>, InputFault>
     requires { most ≤ 67108865 }
     ensures front { IfOk result (λ bytes. IsFront (R.remaining reader.old) most bytes.items) }
@@ -53,7 +53,7 @@ pub fn read_all<A: Allocator, R: Read, L: Ledger>(
     alloc: A,
     reader: &mut R,
     limit: usize,
-    steps: &mut Steps<L>,
+    steps: &mut Steps<R, L>,
 ) -> Result<Vec<u8, A>, InputFault>
     requires { limit ≤ 67108864 }
     ensures whole { IfOk result (λ bytes. IsWhole (R.remaining reader.old) bytes.items) }
@@ -88,7 +88,7 @@ fn read_from<A: Allocator, R: Read, L: Ledger>(
     ensures longer { result ≡ Err InputFault.TooLong → IsLonger (R.remaining reader.old) limit }
     ensures most { TakesAtMost (R.remaining reader.old) (R.remaining reader.new) (limit + 1) }
 {
-    let mut steps = Steps::<L>::new(blank);
+    let mut steps = Steps::<R, L>::new(blank);
     read_all(alloc, reader, limit, &mut steps)
 }
 
@@ -112,7 +112,7 @@ pub fn read_input<A: Allocator, R: Read>(
 pub fn write_noted<W: Write>(
     writer: &mut W,
     bytes: &[u8],
-    lost: &mut Lost,
+    lost: &mut Lost<W>,
 ) -> Result<(), WriteFault>
     ensures ok { OnOk result (Appends (W.contents writer.old) (W.contents writer.new) bytes.now) }
     ensures short { IfErr result (λ fault. fault.written < length bytes.now) }
