@@ -24,7 +24,7 @@ pub struct Case {
     /// How many bytes the output takes before a write fails.
     pub room: usize,
     pub limits: Limits,
-    /// Whether the program is told that its input is a terminal.
+    /// Whether the case tells the program that its input is a terminal.
     pub terminal: bool,
     /// Whether the output is only the beginning of what the program may print.
     pub begins: bool,
@@ -56,8 +56,8 @@ impl Case {
         }
     }
 
-    /// Makes this the case that begins at `line`. It keeps the input of the case before, and the part to be replaced,
-    /// until the case gets its own.
+    /// Makes this the case that begins at `line`. It keeps the input of the case before, with nothing replaced, and the
+    /// part to be replaced, until the case gets its own.
     pub fn begin(&mut self, line: u64) {
         self.line = line;
         self.words.clear();

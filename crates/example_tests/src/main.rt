@@ -22,7 +22,7 @@ use std::sync::Wait;
 use std::thread::Threads;
 use std::{env, fs, io};
 
-/// The file with the names of the files of cases, a line each.
+/// The file with the names of the files of cases, a line each, without their ending `.cases`.
 const FILES: &str = "cases/files";
 
 /// How many cases were run, and how many of them didn't come out as they say.
@@ -95,7 +95,7 @@ fn run_file<T: Threads + Wait + Sync>(
     for line in text.lines() {
         // form: saturating spares a requirement
         number = number.saturating_add(1);
-        if line.starts_with("$ ") {
+        if line == "$" || line.starts_with("$ ") {
             counts.run(rt, threads, file, &case)?;
             case.begin(number);
         }
@@ -128,7 +128,7 @@ fn prints(rt: &HostRuntime, path: &str) -> io::Result<bool> {
 }
 
 /// Prints the report of the script in the file that the first word of the command line names, or runs all cases if
-/// there is no word. Says whether that went well.
+/// there is no word. Says whether the whole report was printed, or whether no case differs.
 fn ends_well<T: Threads + Wait + Sync>(rt: &HostRuntime, threads: &T) -> io::Result<bool> {
     let mut words = env::args(rt)?.skip(1);
     match words.next() {

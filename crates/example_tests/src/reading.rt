@@ -18,9 +18,12 @@ fn number(text: &str) -> io::Result<usize> {
     }
 }
 
-/// Appends the bytes that `spelled` has as hexadecimal numbers, with a space between them.
+/// Appends the bytes that `spelled` has as hexadecimal numbers of two digits, with a space between them.
 fn put_bytes(bytes: &mut Vec<u8>, spelled: &str) -> io::Result<()> {
     for digits in spelled.split(' ') {
+        if digits.len() != 2 || digits.starts_with('+') {
+            return Err(no_form());
+        }
         let Ok(byte) = u8::from_str_radix(digits, 16) else {
             return Err(no_form());
         };
@@ -73,7 +76,8 @@ fn replace(case: &mut Case, by: &str) -> io::Result<()> {
     Ok(())
 }
 
-/// The limits that four numbers spell: acts, entries, clock and messages.
+/// The limits that four numbers spell: acts, entries, clock and messages. Another text, or a number out of its range,
+/// is an error.
 fn limits(spelled: &str) -> io::Result<Limits> {
     let mut numbers = [1u64; 4];
     let mut words = spelled.split(' ');
@@ -127,9 +131,13 @@ fn status(text: &str) -> io::Result<u8> {
     }
 }
 
-/// Appends what the line gives to the input, the output or the errors, by its mark.
+/// Appends what the line gives to the input, the output or the errors, by its mark. Another mark is an error, and so is
+/// a line of the input after a replacement, since the input must be whole before a part is replaced.
 fn put_in_stream(rt: &HostRuntime, case: &mut Case, mark: &str, text: &str) -> io::Result<()> {
     if let Some(form) = mark.strip_prefix('<') {
+        if case.altered.is_some() {
+            return Err(no_form());
+        }
         return put(rt, case.own_input(), form, text);
     }
     if let Some(form) = mark.strip_prefix('>') {

@@ -65,7 +65,8 @@ fn first_difference<'a>(one: &'a str, other: &'a str) -> (u64, &'a str, &'a str)
     )
 }
 
-/// Whether the bytes that were written are those expected. If not, prints the first line that differs, after `place`.
+/// Whether the bytes that were written are those expected. If not, prints the first line that differs, after `place`;
+/// bytes that aren't UTF-8 are compared there as `no text`.
 fn is_same(rt: &HostRuntime, place: &str, written: &[u8], expected: &[u8]) -> io::Result<bool> {
     if written == expected {
         return Ok(true);
@@ -78,7 +79,8 @@ fn is_same(rt: &HostRuntime, place: &str, written: &[u8], expected: &[u8]) -> io
     Ok(false)
 }
 
-/// The part of the output that the case compares: all of it, or, if the case `begins`, as many bytes as the case has.
+/// The part of the output that the case compares: all of it, or, if the case `begins`, no more bytes than the case has
+/// of the output.
 fn looked_at<'a>(case: &Case, written: &'a [u8]) -> &'a [u8] {
     if !case.begins {
         return written;

@@ -81,7 +81,7 @@ fn have_same_nodes<'a>(one: &Bench<'a, Heap>, other: &Bench<'a, Heap>) -> bool {
     true
 }
 
-/// Whether both benches keep the same steps, each with the same number and node.
+/// Whether both benches keep the same steps in the same order, each with the same number and node.
 fn keep_same_steps<'a>(one: &Bench<'a, Heap>, other: &Bench<'a, Heap>) -> bool {
     let (steps, others) = (one.remaining(), other.remaining());
     for place in 0..steps.len() {
@@ -96,7 +96,7 @@ fn keep_same_steps<'a>(one: &Bench<'a, Heap>, other: &Bench<'a, Heap>) -> bool {
     steps.len() == others.len()
 }
 
-/// Whether both histories have the same calls and replies.
+/// Whether both histories have the same calls and replies, in the same order.
 pub fn are_calls<'a>(history: &History<'a, Heap>, other: &History<'a, Heap>) -> bool {
     for place in 0..history.len() {
         match (history.at(place), other.at(place)) {

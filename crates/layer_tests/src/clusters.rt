@@ -29,7 +29,7 @@ fn has_nodes_of<'a>(cluster: &Cluster<'a, Heap>, bench: &Bench<'a, Heap>) -> boo
 }
 
 /// Takes the step `call.1` at node `call.0` with its first, second, .. request for memory refused, until no refusal is
-/// met. Each refusal must leave the nodes the same as those of the bench.
+/// met. Each refusal must be `OutOfMemory`, and leave the nodes the same as those of the bench.
 fn step_refused<'a>(
     cluster: &mut Cluster<'a, Heap>,
     bench: &Bench<'a, Heap>,
@@ -69,8 +69,8 @@ fn play<'a>(
     }
 }
 
-/// Asks for a step of a node that isn't there, and for a step that names such a node: both must be refused. The cluster
-/// must have two nodes.
+/// Asks for a step of a node that isn't there, and for a step that names such a node: both must be `UnknownNode`. The
+/// cluster must have two nodes.
 fn knows_two<'a>(cluster: &mut Cluster<'a, Heap>, rt: &impl Abort) {
     let no_node = cluster.step(2, &Step::Broadcast).err();
     let no_name = cluster.step(0, &Step::Up { name: 2 }).err();
@@ -79,7 +79,7 @@ fn knows_two<'a>(cluster: &mut Cluster<'a, Heap>, rt: &impl Abort) {
     holds!(rt, cluster.len() == 2);
 }
 
-/// Plays the calls at the cluster and at the bench, and then asks the cluster for what it doesn't know.
+/// Plays the calls at the cluster and at the bench. Then the cluster must know two nodes and no third.
 fn takes_steps<'a>(
     cluster: &mut Cluster<'a, Heap>,
     bench: &mut Bench<'a, Heap>,

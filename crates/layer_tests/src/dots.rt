@@ -35,7 +35,8 @@ fn a_name_set_has_what_was_put_in(rt: HostRuntime) {
     holds!(&rt, !names.same(NameSet::empty()));
 }
 
-/// Inserts the dot, and says whether it was new. If that needs memory, the allocator must have it.
+/// Inserts the dot, which a set must be able to hold, and says whether it was new. If the insert needs memory, the
+/// allocator must have it.
 fn puts_in<A: Allocator>(rt: &impl Abort, dots: &mut DotSet<A>, dot: Dot) -> bool {
     assert!(rt; dot.ok());
     dots.insert(dot).expect(rt, "a dot")
@@ -384,7 +385,7 @@ fn what_grows_no_cloud_takes_no_memory(rt: HostRuntime) {
 
 /// Inserts two dots of name 0: the one that closes the gap, and the one after the last. Then takes out the name's part,
 /// and puts it back. Copies the dots of no names. Says whether both dots were new, the set was empty without the part,
-/// the copy is empty, and the context clock of name 0 is 5 at the end.
+/// the copy is empty, and name 0 has the context clock 5 and an empty cloud at the end.
 fn grows_its_context<A: Allocator + Copy>(rt: &impl Abort, dots: &mut DotSet<A>) -> bool {
     let fills = puts_in(rt, dots, Dot { name: 0, clock: 2 });
     let goes_on = puts_in(rt, dots, Dot { name: 0, clock: 5 });
@@ -398,7 +399,7 @@ fn grows_its_context<A: Allocator + Copy>(rt: &impl Abort, dots: &mut DotSet<A>)
 }
 
 /// Unites the set with `same`, which has the same dots; then takes out the dot at the context clock of name 0, and
-/// inserts it again. Says whether the set is the same as before.
+/// inserts it again. Says whether the dot was there, was new again, and the set is the same as before.
 fn takes_again<A: Allocator + Copy>(
     rt: &impl Abort,
     dots: &mut DotSet<A>,
@@ -421,6 +422,7 @@ fn grows_its_cloud<A: Allocator>(rt: &impl Abort, dots: &mut DotSet<A>) {
 }
 
 /// A union takes its memory from the allocator of the set that grows, and none from the allocator of the other set.
+/// Later inserts into the set that grew do so, too.
 #[test]
 fn a_union_takes_the_memory_of_the_set_that_grows(rt: HostRuntime) {
     let own = Refusing::new(rt.alloc());

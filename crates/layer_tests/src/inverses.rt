@@ -22,8 +22,8 @@ struct Stood {
     in_delta: bool,
 }
 
-/// What is kept of a step of the first node. Names and dots of other nodes are the last node's. Dots and entries are
-/// given by their clocks, and old parts by their context clocks.
+/// What the bench keeps of a step of the first node. Names and dots of other nodes are the last node's. Dots and
+/// entries are given by their clocks, and old parts by their context clocks.
 #[derive(Clone, Copy)]
 enum Told {
     Join,
@@ -99,7 +99,7 @@ fn are_parts<A: Allocator>(parts: &[OldPart<A>], clocks: &[u64]) -> bool {
         })
 }
 
-/// Whether what is kept of the delivery is what `told` says.
+/// Whether what the bench keeps of the delivery is what `told` says.
 fn is_delivered<A: Allocator>(delivered: &Delivered<A>, told: Told) -> bool {
     let Delivered {
         joined,
@@ -117,7 +117,7 @@ fn is_delivered<A: Allocator>(delivered: &Delivered<A>, told: Told) -> bool {
     are_dots(joined, dots) && are_entries(left, entries) && are_parts(parts, clocks)
 }
 
-/// Whether what is kept of the forgotten name is what `told` says.
+/// Whether what the bench keeps of the forgotten name is what `told` says.
 fn is_forgotten<A: Allocator>(forgotten: &Forgotten<A>, told: Told) -> bool {
     let Forgotten { part, entries } = forgotten;
     let Told::Permdown {
@@ -211,7 +211,7 @@ a answer af 3
 /// How many steps the last node takes before those of the first.
 const FIRST: usize = 5;
 
-/// What is kept of each step of the first node, in their order.
+/// What the bench keeps of each step of the first node, in their order.
 const KEPT: &[Told] = &[
     Told::Join,
     Told::Update(Stood {
@@ -293,7 +293,7 @@ const KEPT: &[Told] = &[
     Told::Sent,
 ];
 
-/// Whether the bench keeps of step `number` what `told` says.
+/// Whether the bench keeps of step `number` what `told` says; `false` if the step doesn't remain.
 fn keeps<'a>(bench: &Bench<'a, Heap>, number: u64, told: Told) -> bool {
     match bench.way_back(number) {
         Some(inverse) => is_inverse(inverse, told),

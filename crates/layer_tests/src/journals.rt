@@ -141,7 +141,7 @@ fn a_step_with_room_and_its_loans_take_no_memory(rt: HostRuntime) {
     drop(journal);
 }
 
-/// Without room, a journal that is refused memory keeps no step, and gives it back with its inverse.
+/// A journal that is refused memory makes no room, and gives a step back with its inverse instead of keeping it.
 fn keeps_nothing<'a>(
     journal: &mut Journal<'a, Heap>,
     inverse: Inverse<&'a Heap>,
@@ -173,7 +173,7 @@ fn a_step_that_is_refused_memory_is_not_kept(rt: HostRuntime) {
     drop(journal);
 }
 
-/// A journal that is refused memory is not made, unless it asks for none.
+/// With all memory refused, a journal is made if and only if it asks for none.
 #[test]
 fn a_journal_is_made_if_no_memory_is_refused(rt: HostRuntime) {
     let heap = Refusing::new(rt.alloc());

@@ -8,16 +8,16 @@
 //! through small cases worked by hand. Most tables of calls with their replies, of lists and of clocks are data of
 //! `example_tests`, where they cost no proof.
 //!
-//! A test drops large values by name before it ends or asserts, for the check alone: ways out with many live values are
-//! costly.
+//! A test drops large values by name before it ends or asserts, since ways out with many live values are costly to
+//! prove.
 //!
 //! The modules in reading order: `cases`, assertions; `refusing`, tests of the allocator of `test_alloc`; `dots`, sets
 //! of dots; `benches`, from a script to a bench that has played its acts, which prepares most tests; `payloads`, words,
 //! entries and messages; `journals`, loans of inverses; `inverses`, what is kept of each step; `undone`, steps of nodes
 //! taken back; `memory` and `unwinds`, what refused memory leaves of a bench; `clusters`, nodes without a bench;
-//! `costs`, the bytes of a step; `wide`, large values; `reads`, the calls that take no memory; `names`, names and
-//! limits; `swaps`, from the steps of one bench to those of another; `orders`, `networks` and `pages`, small runs
-//! worked by hand; `lists`, how online lists differ; `laws`, that the laws can be used on any bench.
+//! `costs`, the bytes of a join and its undo; `wide`, large values; `reads`, the calls that take no memory; `names`,
+//! names and limits; `swaps`, from the steps of one bench to those of another; `orders`, `networks` and `pages`, small
+//! runs worked by hand; `lists`, how online lists differ; `laws`, that the laws can be used on any bench.
 #![tactic(auto)]
 
 /// An assertion as a call, which names its own text if it fails. An `assert!` here would add an exit, which is costly

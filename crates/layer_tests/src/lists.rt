@@ -12,7 +12,7 @@ use test_alloc::Refusing;
 
 type Rows<'a> = Vec<OnlineRow<&'a Heap>, &'a Heap>;
 
-/// A row of an online list: topic, key, node, process, clock and metadata.
+/// A row of an online list: topic, key, name, process, clock and metadata.
 type Seen = (&'static str, &'static str, u16, u64, u64, &'static str);
 
 /// Whether the row has these values.
@@ -124,7 +124,7 @@ const AT_B_ALONE: &[Seen] = &[
 ];
 
 /// Whether the first row is less than the second, and a copy of the first is the same as the first and not as the
-/// second; `false` if there are fewer than two rows.
+/// second; `false` if there are fewer than two rows, or memory for the copy was refused.
 fn begins_in_order<'a>(rows: &Rows<'a>) -> bool {
     let [first, second, ..] = rows.as_slice() else {
         return false;
@@ -140,8 +140,8 @@ fn begins_in_order<'a>(rows: &Rows<'a>) -> bool {
     }
 }
 
-/// Compares the lists with the first, second, .. request for memory refused, until no refusal is met. Gives how many
-/// requests were refused, or 40 if each of the first 39 was.
+/// Compares the lists with the first, second, .. request for memory refused, until no refusal is met; the comparison
+/// must succeed then, and only then. Gives how many requests were refused, or 40 if each of the first 39 was.
 fn refused_in_turn<'a>(a: &Rows<'a>, b: &Rows<'a>, heap: &'a Heap, rt: &impl Abort) -> u64
     requires a { AreInOrder a.now.items }
     requires b { AreInOrder b.now.items }

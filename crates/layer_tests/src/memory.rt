@@ -1,5 +1,5 @@
 //! What calls of a bench leave if memory is refused. The calls are those of a script; a second bench, which makes the
-//! same calls with memory, says what there must be before and after each.
+//! same calls with memory, says what there must be before and after each. Then the refusals that take no memory.
 use crate::benches::{Calls, Heap, Pair, are_same, calls_of, limits_of, opened, played_twice};
 use crate::cases::holds;
 use bench_core::{Act, Bench, Fault, Limits, Reply, Step};
@@ -319,7 +319,8 @@ fn run_gives<'a>(
 }
 
 /// `Bench::run` refuses each call that names a node which the bench doesn't have, and records it while a place is free.
-/// If memory for the list of replies is refused, `run` makes none of the calls.
+/// If memory for the list of replies is refused, `run` makes none of the calls. Once no place is free, `Bench::act`
+/// refuses such calls without memory.
 fn refuses_unknown<'a>(bench: &mut Bench<'a, Heap>, heap: &'a Heap, rt: &impl Abort) {
     let calls = unknown();
     heap.refuse_only(1);

@@ -101,7 +101,7 @@ fn named<'a>(heap: &'a Heap, texts: &[&str], rt: &impl Abort) -> Names<&'a Heap>
     Names::new(heap, texts).expect(rt, "names")
 }
 
-/// Whether these are the names of `ALL`, by number and by text.
+/// Whether these are the names of `ALL` and no others, by number and by text.
 fn are_all<'a>(names: &Names<&'a Heap>) -> bool {
     for (number, text) in ALL.iter().enumerate() {
         let number = number as u16;
@@ -131,8 +131,8 @@ fn names_are_numbered_in_their_order_without_memory(rt: HostRuntime) {
     drop(names);
 }
 
-/// Makes the names of `ALL` with the first, second, .. request for memory refused, until no refusal is met. Gives how
-/// many requests were refused.
+/// Makes the names of `ALL` with the first, second, .. request for memory refused, until no refusal is met. Each
+/// refusal must be `OutOfMemory`. Gives how many requests were refused, or 99 if each of the first 99 was.
 fn refused_names(heap: &Heap, rt: &impl Abort) -> u64 {
     for number in 1..100 {
         heap.refuse_only(number);
@@ -146,7 +146,7 @@ fn refused_names(heap: &Heap, rt: &impl Abort) -> u64 {
 }
 
 /// Copies the names with the first, second, .. request for memory refused, until no refusal is met: then the copy must
-/// be the same. Gives how many requests were refused.
+/// be the same. Gives how many requests were refused, or 99 if each of the first 99 was.
 fn refused_copies<'a>(names: &Names<&'a Heap>, heap: &'a Heap, rt: &impl Abort) -> u64 {
     for number in 1..100 {
         heap.refuse_only(number);

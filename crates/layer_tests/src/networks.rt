@@ -1,6 +1,6 @@
 //! What the network could have done: the outcomes of small runs, worked by hand, each with a run that leads to it; what
-//! is refused; and requests for memory refused in turn. A run is given by its steps' places in the recorded run,
-//! counted from 0.
+//! is refused; requests for memory refused in turn; and what a watcher is told. A run is given by its steps' places in
+//! the recorded run, counted from 0.
 use crate::benches::{Heap, limits_of, played};
 use crate::wide;
 use bench_core::{Bench, Cluster, Limits};
@@ -218,8 +218,11 @@ fn standing<'a>(cluster: &Cluster<'a, Heap>, node: u16, clock: u64) -> u8 {
     0
 }
 
-/// Whether the dots stand in the outcome as `so` says.
+/// Whether the dots stand in the outcome as `so` says, which must have one standing for each dot.
 fn is_so<'a>(outcome: &Outcome<'a, Heap>, dots: &[(u16, u64)], so: &[u8]) -> bool {
+    if dots.len() != so.len() {
+        return false;
+    }
     for (dot, standing_wanted) in dots.iter().zip(so) {
         let (node, clock) = *dot;
         if standing(outcome.cluster(), node, clock) != *standing_wanted {
@@ -271,7 +274,8 @@ fn replicas_come_out_by_what_the_network_does(rt: HostRuntime) {
     }
 }
 
-/// Explores with at most three states, which are too few, and with four, which are enough.
+/// Explores with at most three states, which are too few though both outcomes are found, and with four, which are
+/// enough.
 fn keeps_four<'a>(bench: &mut Bench<'a, Heap>, heap: &'a Heap, rt: &impl Abort) {
     let asked = presence(1, "x", heap, rt);
     let few = explored(bench, &asked, (0, 0), 3, heap, rt).err();

@@ -46,28 +46,44 @@ a leaveall 2
     ),
 ];
 
+/// What came of a refused request for memory.
+#[derive(Clone, Copy)]
+struct Refused {
+    /// Whether the request was made.
+    was_made: bool,
+    /// Whether the data was given all the same.
+    has_data: bool,
+}
+
 /// Asks for the data of the script's page, while the heap refuses one request for memory: the one with the number
-/// `refused`. Says whether that gives `wanted`, or gives nothing because that request was made.
-fn has_data<'a>(script: &str, wanted: &str, refused: u64, heap: &'a Heap, rt: &impl Abort) -> bool {
+/// `refused`. The data must be `wanted`; there may be none only if the request was made. Even then there may be data,
+/// since a node can do without the memory that it asks for ahead.
+fn refuse<'a>(
+    script: &str,
+    wanted: &str,
+    refused: u64,
+    heap: &'a Heap,
+    rt: &impl Abort,
+) -> Refused {
     let script = parse_script(heap, script.as_bytes()).expect(rt, script);
     let played = run_script(&script, heap, Limits::usual()).expect(rt, "a bench");
     heap.refuse_only(refused);
     let told = page_data(&played.bench, heap, console_names(&script));
-    let requests = heap.requests();
+    let was_made = heap.requests() >= refused;
     heap.refuse_none();
     drop(played);
     drop(script);
-    match told {
-        Ok(text) => text.as_str() == wanted,
-        Err(_) => requests >= refused,
-    }
+    let has_data = told.is_ok();
+    holds!(rt, told.map_or(was_made, |text| text.as_str() == wanted));
+    Refused { was_made, has_data }
 }
 
 #[test]
 fn the_data_of_a_page(rt: HostRuntime) {
     let heap = Refusing::new(rt.alloc());
     for (script, data) in PAGES {
-        holds!(&rt, has_data(script, data, 1000000, &heap, &rt));
+        let told = refuse(script, data, 1000000, &heap, &rt);
+        holds!(&rt, !told.was_made && told.has_data);
     }
 }
 
@@ -75,8 +91,16 @@ fn the_data_of_a_page(rt: HostRuntime) {
 fn no_data_without_memory(rt: HostRuntime) {
     let heap = Refusing::new(rt.alloc());
     for (script, data) in PAGES {
-        for refused in 1..400 {
-            holds!(&rt, has_data(script, data, refused, &heap, &rt));
+        let mut has_failed = false;
+        let mut refused = 1;
+        while refused < 400 {
+            let told = refuse(script, data, refused, &heap, &rt);
+            if !told.was_made {
+                break;
+            }
+            has_failed |= !told.has_data;
+            refused += 1;
         }
+        holds!(&rt, has_failed && refused < 400);
     }
 }

@@ -8,12 +8,13 @@ use test_alloc::Refusing;
 
 type Heap = Refusing<Global>;
 
-/// A word. If it has more than 14 bytes, the allocator must have memory for it.
+/// The word that `text` spells. The text must spell one; if it has more than 14 bytes, there must be memory for it.
 pub fn word<A: Allocator + Clone>(rt: &impl Abort, alloc: A, text: &str) -> Word<A> {
     Word::new(alloc, text).expect(rt, "a word")
 }
 
-/// An entry of process 7 under the topic `room` and this key, at the dot of this name and clock.
+/// An entry of process 7 under the topic `room` and this key, with the metadata `phone`, at the dot of this name and
+/// clock.
 fn entry<A: Allocator + Copy>(
     rt: &impl Abort,
     alloc: A,
@@ -21,13 +22,10 @@ fn entry<A: Allocator + Copy>(
     clock: u64,
     key: &str,
 ) -> Entry<A> {
-    Entry {
-        dot: Dot { name, clock },
-        pid: 7,
-        topic: word(rt, alloc, "room"),
-        key: word(rt, alloc, key),
-        metadata: word(rt, alloc, "phone"),
-    }
+    let dot = Dot { name, clock };
+    let topic = word(rt, alloc, "room");
+    let key = word(rt, alloc, key);
+    Entry::new(dot, 7, topic, key, word(rt, alloc, "phone"))
 }
 
 /// Inserts `entry`. Its dot must have no entry in `entries` yet, and there must be memory or room for it.
@@ -121,7 +119,7 @@ fn compare<A: Allocator + Copy>(rt: &impl Abort, alloc: A, clock: u64, key: &str
     let alice = entry(rt, alloc, 0, 1, "alice");
     let other = entry(rt, alloc, 0, clock, key);
     let is_same = alice.same(&other);
-    let is_tracked = alice.is_tracked_as(7, &alice.topic, &other.key);
+    let is_tracked = alice.is_tracked_as(7, alice.topic(), other.key());
     drop(alice);
     drop(other);
     (is_same, is_tracked)
@@ -279,7 +277,7 @@ fn seen_of<A: Allocator + Copy>(rt: &impl Abort, alloc: A, clock: u64) -> DotSet
     seen
 }
 
-/// A message of node 0 that has seen its dot with this clock, and has no entry.
+/// A message of node 0 that has node 0's dot with this clock, and no entry.
 fn message<'a>(heap: &'a Heap, clock: u64, rt: &impl Abort) -> Payload<&'a Heap> {
     let seen = seen_of(rt, heap, clock);
     Payload::new(0, seen, EntrySet::new(heap))
@@ -355,8 +353,8 @@ fn pops<'a>(outbox: &mut Outbox<'a, Heap>, clock: u64) -> bool {
     }
 }
 
-/// Pushes the message of this clock with all memory refused, after making room for it if `has_room`. Gives its number,
-/// or the fault.
+/// Pushes the message of this clock with all memory refused, after making room for it if `has_room`. Gives the number
+/// of the message, or the fault, with which the message must come back.
 fn pushes<'a>(
     outbox: &mut Outbox<'a, Heap>,
     clock: u64,

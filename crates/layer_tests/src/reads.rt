@@ -19,7 +19,7 @@ fn reads_entries<'a>(entries: &EntrySet<&'a Heap>, rt: &impl Abort) {
     let first = entries.at(0).expect(rt, "an entry");
     let entry = entries.get(last).expect(rt, "an entry");
     let place = entries.first_from(last);
-    let found = entries.find(0, entry.pid, &entry.topic, &entry.key);
+    let found = entries.find(0, entry.pid, entry.topic(), entry.key());
     holds!(rt, entries.len() >= 65);
     holds!(rt, !entries.is_empty());
     holds!(rt, first.same(first) && !first.same(entry));
@@ -219,7 +219,7 @@ fn is_copied<'a>(act: &Act<&'a Heap>) -> bool {
     }
 }
 
-/// Acts of each kind are copied without memory, since their words are stored inline.
+/// Acts of each kind, here with words that are stored inline, are copied without memory.
 #[test]
 fn an_act_is_copied_without_memory(rt: HostRuntime) {
     let heap = Refusing::new(rt.alloc());

@@ -83,8 +83,8 @@ fn given_back<'a>(
     }
 }
 
-/// Takes a step back by `inverse` with request `number` for memory refused, and if that fails, again with memory. Says
-/// whether the first try failed.
+/// Takes a step back by `inverse` with request `number` for memory refused, and if that fails, again with memory, which
+/// must succeed. Says whether the first try failed.
 fn gives_back<'a>(
     node: &mut Node<'a, Heap>,
     inverse: Inverse<&'a Heap>,
@@ -179,8 +179,8 @@ fn turn<'a>(
     refusals
 }
 
-/// Takes each step whose actor is node 0 at `a`, and each other step at `b`, like `turn`. Gives the most requests that
-/// were refused for one step.
+/// Takes each step of node 0 at `a`, and each other step at `b`, like `turn`. Gives the most requests that were refused
+/// for one step.
 fn turns<'a>(
     a: &mut Node<'a, Heap>,
     b: &mut Node<'a, Heap>,

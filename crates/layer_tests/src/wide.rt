@@ -1,4 +1,5 @@
-//! Large values: a bench of 32 nodes, whose first node sent 130 messages, and copies of what it holds.
+//! Large values: a bench of 32 nodes, whose first node sent 130 messages; copies of the first two nodes and of the
+//! history; and an unwind of 66 steps.
 use crate::benches::{Heap, are_calls, played};
 use bench_core::{Bench, History, Limits, Node, Unwound};
 use std::process::Abort;

@@ -142,8 +142,8 @@ const TOLD: &[(&[&str], u8)] = &[
     (&["play", "--help"], 0),
 ];
 
-/// Whether the program ends with this status and reads no input. It must print the refusal of words on its errors
-/// alone, and help on its output alone.
+/// Whether the program ends with this status, reads no input, and prints a refusal of words (status 2) on its errors
+/// alone, or help (status 0) on its output alone.
 fn tells_words<T: Threads + Wait + Sync + Abort>(
     heap: Global,
     words: &[&str],
@@ -287,9 +287,9 @@ const ANSWERED: &[(&[&str], &str, &str)] = &[
     ),
 ];
 
-/// Runs the program with request `number` for memory refused: it must either print all and end with status 0, or print
-/// nothing, say that it was out of memory and end with status 4. Gives whether there was such a request, and whether
-/// the program ended early.
+/// Runs the program with request `number` for memory refused. It must print all and end with status 0; or, if there was
+/// such a request, it may end early: print nothing, say that it was out of memory and end with status 4. Gives whether
+/// there was such a request, and whether the program ended early.
 fn refused<T: Threads + Wait + Sync + Abort>(
     rt: &T,
     global: Global,
@@ -419,7 +419,7 @@ fn replies_of(report: &[u8]) -> usize {
     report.lines().filter(is_reply).count()
 }
 
-/// What the program writes to its output. It must end with status 0, and write nothing to its errors.
+/// What the program writes to its output. The program must end with status 0, and write nothing to its errors.
 fn printed<T: Threads + Wait + Sync + Abort>(
     heap: Global,
     words: &[&str],
@@ -447,7 +447,7 @@ fn a_race_is_saved_and_loads_again(rt: HostRuntime) {
     assert!(rt; count == 4);
 }
 
-/// Cases: a fault of a race, the status, and the fault's line.
+/// Cases: a fault of a race, the status, and the fault's text.
 const RACE_FAULTS: &[(RaceFault, u8, &str)] = &[
     (RaceFault::UnknownActor, 1, "race: UnknownActor"),
     (RaceFault::NoRoom, 1, "race: NoRoom"),
@@ -466,7 +466,7 @@ fn the_faults_of_a_race_have_their_status(rt: HostRuntime) {
     }
 }
 
-/// `run` reads the words of the tests' own command line, which choose nothing.
+/// `run` reads the words of the tests' own command line, which choose nothing: status 2.
 #[test]
 fn run_ends_with_the_status(rt: HostRuntime) {
     let code = run(&rt, &rt).report(&rt);

@@ -132,7 +132,8 @@ fn what_is_written_is_told_of_any_bytes(rt: HostRuntime) {
     assert!(rt; is_written_in_part(rt.alloc()));
 }
 
-/// Whether writing `abc` to a writer with this room notes a loss if and only if the room is too small.
+/// Whether writing `abc` to a writer with this room fails and notes a loss if the room is too small, and otherwise does
+/// neither.
 fn notes_a_loss(heap: Global, room: usize) -> bool {
     let mut writer = FakeWriter::new(heap, room);
     let mut lost = Lost::nothing();

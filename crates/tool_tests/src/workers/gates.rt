@@ -4,7 +4,7 @@ use std::thread;
 use std::time::{Clock, Duration};
 use worker_core::Gate;
 
-/// How often a gate looks whether enough lines have passed, a millisecond apart, before it gives up.
+/// How many times a gate looks whether enough lines have passed, before it gives up. It looks once a millisecond.
 const LOOKS: u32 = 10_000;
 
 /// The most lines that an order may have.
@@ -19,9 +19,9 @@ impl Gate for Idle {
     fn after(&self, _actor: u16, _line: u64) {}
 }
 
-/// A gate that lets lines pass in a given order: it holds a line until the line before it in that order has passed. It
-/// counts how often it is called for each line, and how often with another actor than the line's, and notes whether it
-/// gave up.
+/// A gate that lets lines pass in a given order: it holds a line until as many lines have passed as come before that
+/// line in the order. It counts how often it is called for each line, and how often with another actor than the line's,
+/// and notes whether it gave up.
 #[derive(Drop)]
 pub struct InOrder<R> {
     rt: R,

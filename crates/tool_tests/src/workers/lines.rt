@@ -15,7 +15,7 @@ pub fn lines_of<'a, B: Allocator>(alloc: &'a B, script: &str, rt: &impl Abort) -
     lines.expect(rt, "act lines")
 }
 
-/// Drops the lines. It is a function of its own, so that the check takes the lines apart only here.
+/// Drops the lines. It is a function of its own, so that their drop is proved only here.
 pub fn let_go_of_lines<'a, B: Allocator>(lines: Lines<'a, B>) {
     drop(lines);
 }

@@ -1,5 +1,5 @@
-//! Consoles that undo while nodes run, in orders that a gate fixes; altered receipts of such a race; and histories with
-//! another beginning.
+//! A console that undoes while nodes take steps, in orders that a gate fixes; altered receipts of such a race; and
+//! histories with another beginning.
 use crate::workers::gates::{Idle, InOrder};
 use crate::workers::lines::{let_go_of_lines, lines_of, open};
 use crate::workers::races::{Left, agree_with_none, agrees, raced, raced_on};
@@ -11,7 +11,7 @@ use std::thread::Threads;
 use std::time::Clock;
 use worker_core::{Receipt, Receipts, ask};
 
-/// A console undoes what a node did, while the nodes run.
+/// A console undoes what a node did, while the nodes take steps.
 pub const UNDONE_BESIDE: &str = "\
 nodes a b
 consoles c1
@@ -115,7 +115,8 @@ fn entries_of<'a, B: Allocator>(bench: &Bench<'a, B>, number: u16, rt: &impl Abo
     node.replica().entries().len()
 }
 
-/// Whether the bench gave the order's replies, and node `b` has as many entries as the order says.
+/// Whether the bench recorded the lines in this order, with the replies of the order, and node `b` has as many entries
+/// as the order says.
 fn is_left_so<'a>(
     bench: &mut Bench<'a, Global>,
     order: &Order,
@@ -129,7 +130,7 @@ fn is_left_so<'a>(
 }
 
 /// Whether a race in this order gives the replies of the order, leaves node `b` with as many entries as the order says,
-/// and lets each line pass the gate once.
+/// and lets each line pass the gate once. The gate waits after line 3, too.
 fn is_raced_so<R: Threads + Wait + Clock + Abort + Sync + Copy>(
     rt: &R,
     heap: &Global,

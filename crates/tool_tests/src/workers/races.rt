@@ -31,7 +31,7 @@ consoles c1
 c1 undo 1
 ";
 
-/// What a race gives back: the bench, and its receipts or its fault.
+/// What a race gives back: the bench, and the receipts or the fault.
 type Raced<'a, B> = Result<(Bench<'a, B>, Receipts<&'a B>), (RaceFault, Bench<'a, B>)>;
 
 /// What calls of several actors leave: the bench, and the receipts of each actor.
@@ -178,8 +178,9 @@ fn have_lengths<A: Allocator>(lists: &[Vec<Receipt<A>, A>], lengths: &[usize]) -
     are_so
 }
 
-/// Whether what a race of `DELIVERED` left has a receipt for each line, the receipts agree with the bench's history,
-/// and a fresh bench that is asked this history's calls gives the same replies and nodes.
+/// Whether what a race of `DELIVERED` left has a receipt for each line, the receipts agree with the histories before
+/// and after the race but not with the two exchanged, and a fresh bench that is asked the recorded calls gives the same
+/// replies and nodes.
 fn are_vouched_for<'a, B: Allocator>(left: &mut Left<'a, B>, heap: &'a B, rt: &impl Abort) -> bool {
     agree_with_none(left, DELIVERED, heap, rt) == (true, false)
         && have_lengths(&left.1, &[2, 2, 0])
@@ -236,7 +237,7 @@ const REFUSED: &[(&str, u64, u16, RaceFault)] = &[
     (UNKNOWN_ACTOR, 1, 2, RaceFault::UnknownActor),
 ];
 
-/// A race that is refused gives its bench back as it was opened.
+/// A race that is refused gives its bench back with no recorded call and the same limit on acts.
 #[test]
 fn a_race_is_refused_before_it_begins(rt: HostRuntime) {
     let heap = rt.alloc();

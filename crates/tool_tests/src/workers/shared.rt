@@ -177,7 +177,8 @@ fn are_all_taken<'a>(left: &Left<'a, Global>, node: u16, rt: &impl Abort) -> boo
     taken_of(list) == 1_000 && clock_of(&left.0, node, rt) == 1_000
 }
 
-/// Whether the bench has taken a thousand joins of each node, and the receipts account for its history.
+/// Whether the bench has taken a thousand joins of each node and recorded no other call, and the receipts agree with
+/// its history.
 fn are_all_told<'a>(left: &mut Left<'a, Global>, heap: &'a Global, rt: &impl Abort) -> bool {
     let script = joins(rt, heap, &["a", "b"]);
     agree_with_none(left, script.as_str(), heap, rt) == (true, false)
