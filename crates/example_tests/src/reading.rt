@@ -21,7 +21,7 @@ fn number(text: &str) -> io::Result<usize> {
 /// Appends the bytes that `spelled` has as hexadecimal numbers of two digits, with a space between them.
 fn put_bytes(bytes: &mut Vec<u8>, spelled: &str) -> io::Result<()> {
     for digits in spelled.split(' ') {
-        if digits.len() != 2 || digits.starts_with('+') {
+        if digits.len() != 2 || digits.starts_with("+") {
             return Err(no_form());
         }
         let Ok(byte) = u8::from_str_radix(digits, 16) else {

@@ -92,15 +92,15 @@ fn no_data_without_memory(rt: HostRuntime) {
     let heap = Refusing::new(rt.alloc());
     for (script, data) in PAGES {
         let mut has_failed = false;
-        let mut refused = 1;
-        while refused < 400 {
+        let mut was_made = true;
+        for refused in 1..400 {
             let told = refuse(script, data, refused, &heap, &rt);
-            if !told.was_made {
+            was_made = told.was_made;
+            if !was_made {
                 break;
             }
             has_failed |= !told.has_data;
-            refused += 1;
         }
-        holds!(&rt, has_failed && refused < 400);
+        holds!(&rt, has_failed && !was_made);
     }
 }
