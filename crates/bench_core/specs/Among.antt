@@ -1,6 +1,7 @@
 -- One of several values, and a step of one of several nodes.
 use Rattle.std.specs.Prelude.{◌≡◌, ℕ, ◌+◌, ◌<◌, ◌≤◌, nat_lt, true, List, ◌++◌, ◌∷◌, length, Result, OnOk, OnErr}
 use Rattle.std.specs.List.{list_all}
+use Rattle.dots_core.specs.Names.{most_names}
 use Rattle.node_core.specs.declared.inverse.Inverse as declared
 use Rattle.node_core.specs.declared.step_fault.StepFault.{StepFault}
 use Rattle.node_core.specs.Operations.{Operation, named_in}
@@ -24,7 +25,7 @@ pub record Edits {T : Type 0} (P : List T → T → List T → T → Type 0) (xs
 
 -- a node of the cluster may take the step: the nodes that it names are there, and the meter can count it
 pub record MayStep (c : Cluster) (s : Operation) (count : ℕ) : Type 0 where
-  pub few : length c ≤ 32
+  pub few : length c ≤ most_names
   pub named : list_all (λ k. nat_lt k (length c)) (named_in s) ≡ true
   pub numbered : IsNumbered c
   pub counted : count < 18446744073709551615

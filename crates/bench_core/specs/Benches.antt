@@ -1,5 +1,6 @@
 -- What a bench keeps, and what answers a step of one of its nodes and a step back.
 use Rattle.std.specs.Prelude.{◌≡◌, ◌≢◌, ℕ, ◌+◌, ◌≤◌, IsTrue, List, length, slice_get, slice_set, Option, Some, None, Result, Ok, Err}
+use Rattle.dots_core.specs.Names.{most_names}
 use Rattle.replica_core.specs.Replicas.{own_clock}
 use Rattle.node_core.specs.declared.inverse.Inverse as declared
 use Rattle.node_core.specs.declared.step_fault.StepFault.{StepFault}
@@ -36,7 +37,7 @@ pub record IsBench (c : Config) (s : State) (nodes : Cluster) (hs : List Held) (
   pub fits : length s.history + length s.remaining ≤ c.limits.acts
   pub limits : AreLimits c.limits
   pub size : length nodes ≡ c.nodes
-  pub few : c.nodes ≤ 32
+  pub few : c.nodes ≤ most_names
   pub kept : AreNodes nodes
 
 -- the cluster that the remaining steps give: it has a node for each name, and no own clock is above its limit
@@ -60,7 +61,7 @@ pub record IsMachine (m : Machine) : Type 0 where
   pub numbers : AreBelow (given m.state.history + 1) m.state.remaining
   -- the limits are in their ranges, and the names are few
   pub limits : AreLimits m.limits
-  pub few : length m.names ≤ 32
+  pub few : length m.names ≤ most_names
 
 -- each node's place is its name
 abbrev pub IsNumbered : Cluster → Type 0
@@ -70,7 +71,7 @@ IsNumbered c = (n : ℕ) (x : Node) → slice_get c n ≡ Some x → x.replica.o
 pub record IsCluster (c : Cluster) : Type 0 where
   pub kept : AreNodes c
   pub numbered : IsNumbered c
-  pub few : length c ≤ 32
+  pub few : length c ≤ most_names
 
 -- the step of node n was accepted, and its inverse leads back
 pub record IsTaken (c : Cluster) (n : ℕ) (s : Operation) (i : Inverse) (d : Cluster) : Type 0 where
@@ -122,10 +123,6 @@ NeedsNoMemory hs n = (i : Inverse) × (inverse_of (find_held hs n) ≡ Some i) �
 -- the node became what the inverse of step n leads back to
 abbrev pub GoesBack : Cluster → List Held → ℕ → ℕ → Cluster → Type 0
 GoesBack nodes hs n node d = (b : IsBackable nodes hs n node) → (d ≡ slice_set nodes node b.earlier) × IsNode b.earlier
-
--- step n remains, and is of this node
-abbrev pub IsStepOf : State → ℕ → ℕ → Type 0
-IsStepOf s n node = (k : Kept) × (find_number s.remaining n ≡ Some k) × (k.node ≡ node)
 
 -- step n doesn't remain, and its undo is refused with this fault
 pub record IsGone (s : State) (n : ℕ) (fault : Fault) : Type 0 where

@@ -2,6 +2,7 @@
 use Rattle.std.specs.Prelude.{ℕ, ◌+◌, List, [], ◌∷◌, ◌++◌, length, position, Option, Result, Ok, Err, not, nat_lt, ◌==◌, ◌||◌, if◌then◌else◌}
 use Rattle.std.specs.List.{list_any}
 use Rattle.std.specs.Str.{bytes_eq}
+use Rattle.dots_core.specs.Names.{most_names}
 use Rattle.payload_core.specs.Answers.{◌>>=◌}
 use Rattle.bench_core.specs.NameText.{is_name}
 use Rattle.bench_core.specs.declared.names_fault.NamesFault.{NamesFault}
@@ -26,7 +27,7 @@ with_names before (text ∷ texts) = do
 
 -- 1 to 32 names, or their first fault
 abbrev pub names_of : Texts → Result Texts NamesFault
-names_of texts = if (length texts == 0) || nat_lt 32 (length texts) then Err WrongCount else with_names [] texts
+names_of texts = if (length texts == 0) || nat_lt most_names (length texts) then Err WrongCount else with_names [] texts
 
 -- the number of a name: its place, from 0
 abbrev pub number_in : Texts → List ℕ → Option ℕ

@@ -6,6 +6,10 @@ use Rattle.std.specs.List.{list_all}
 abbrev pub is_name_byte : ℕ → Bool
 is_name_byte b = (nat_le 97 b && nat_le b 122) || (nat_le 48 b && nat_le b 57) || (b == 95)
 
--- 1 to 16 bytes of `a-z0-9_`
+-- the length of the longest names, in bytes
+abbrev pub longest_name : ℕ
+longest_name = 16
+
+-- 1 to `longest_name` bytes of `a-z0-9_`
 abbrev pub is_name : List ℕ → Bool
-is_name text = if (length text == 0) || nat_lt 16 (length text) then false else list_all is_name_byte text
+is_name text = if (length text == 0) || nat_lt longest_name (length text) then false else list_all is_name_byte text

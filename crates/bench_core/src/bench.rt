@@ -2,7 +2,7 @@
 ghost use Rattle.std.specs.Prelude.{◌≡◌, ◌≢◌, ◌↔◌, ◌<◌, ◌≤◌, ◌+◌, Ok, IfErr, IfOk, IfSome, IsOk, IsSome, OnOk, OnErr, length, take, option_map};
 ghost use Rattle.node_core.specs.Inverses.{plain_inverse};
 ghost use Rattle.node_core.specs.Operations.{plain};
-ghost use Rattle.journal_core.specs.Journals.{find_number};
+ghost use Rattle.journal_core.specs.Journals.{find_number, IsOfNode};
 ghost use Rattle.journal_core.specs.Gathering.{gathered_numbers};
 ghost use Rattle.journal_core.specs.Holdings.{without_held, kepts};
 ghost use Rattle.bench_core.specs.declared.fault.Fault.TheVariants.{HistoryFull};
@@ -15,7 +15,7 @@ ghost use Rattle.bench_core.specs.Machine.{config_of, free_places, given, knows,
 ghost use Rattle.bench_core.specs.Headline.{CanBeTakenBack, RefusedOnlyForConsequence};
 ghost use Rattle.bench_core.specs.Unwinds.{AreUndone, CanBeUndone, Explains, IsUnwound, IsWhole, Unexplained, undone_by};
 ghost use Rattle.bench_core.specs.WaysBack.{IsWayBack};
-ghost use Rattle.bench_core.specs.Benches.{GoesBack, IsBackable, IsGone, IsMachine, IsNodeOf, IsStepOf, NeedsNoMemory};
+ghost use Rattle.bench_core.specs.Benches.{GoesBack, IsBackable, IsGone, IsMachine, IsNodeOf, NeedsNoMemory};
 
 use crate::act::Act;
 use crate::cluster::Cluster;
@@ -212,7 +212,7 @@ impl<'a, B: Allocator> Bench<'a, B> {
     /// The node of step `number`, or why its undo is refused: `NoSuchStep` if the number was never given,
     /// `AlreadyUndone` if the step doesn't remain.
     fn node_of(&self, number: u64) -> Result<u16, Fault>
-        ensures remains { IfOk result (λ node. IsStepOf self.now.state number node) }
+        ensures remains { IfOk result (λ node. IsOfNode self.now.state.remaining number node) }
         ensures gone { IfErr result (λ fault. IsGone self.now.state number fault) }
     {
         if number == 0 || number > self.meter.count() {

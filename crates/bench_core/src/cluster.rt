@@ -1,6 +1,7 @@
 //! `Cluster`: the nodes of a cluster, which take steps and keep no history and no journal.
 ghost use Rattle.std.specs.Prelude.{◌≡◌, ◌≢◌, ◌↔◌, ◌<◌, ◌≤◌, ◌+◌, ◌&&◌, ◌++◌, ◌∷◌, [], Ok, Err, IfErr, IfOk, IsOk, IsTrue, OnOk, OnErr, length, true, nat_lt, option_map, slice_get};
 ghost use Rattle.std.specs.List.{list_all};
+ghost use Rattle.dots_core.specs.Names.{most_names};
 ghost use Rattle.replica_core.specs.Limits.{AreNodeLimits};
 ghost use Rattle.node_core.specs.Inverses.{plain_inverse, needs_no_memory};
 ghost use Rattle.node_core.specs.Nodes.{Node as PlainNode};
@@ -65,7 +66,7 @@ fn step_node<'a, B: Allocator>(
     meter: &mut Meter,
 ) -> Result<Inverse<&'a B>, StepFault>
     requires there { actor < length nodes.old.items }
-    requires few { length nodes.old.items ≤ 32 }
+    requires few { length nodes.old.items ≤ most_names }
     requires named { list_all (λ k. nat_lt k (length nodes.old.items)) (named_in (plain step.now)) ≡ true }
     requires numbered { IsNumbered nodes.old.items }
     requires meter { meter.old.count < 18446744073709551615 }
@@ -100,7 +101,7 @@ impl<'a, B: Allocator> Model for Cluster<'a, B> {
 impl<'a, B: Allocator> Cluster<'a, B> {
     /// A cluster of `count` empty nodes.
     pub fn new(alloc: &'a B, count: usize, limits: NodeLimits) -> Result<Self, Oom>
-        requires few { count ≤ 32 }
+        requires few { count ≤ most_names }
         requires limits { AreNodeLimits limits }
         ensures { IfOk result (λ cluster. cluster ≡ opening_of limits count) }
     {

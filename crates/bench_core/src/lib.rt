@@ -35,7 +35,7 @@ pub use fault::Fault;
 pub use history::{Event, History};
 pub use journal_core::{Journal, Kept};
 pub use limits::Limits;
-pub use names::{Names, is_name};
+pub use names::{LONGEST_NAME, Names, is_name};
 pub use names_fault::NamesFault;
 pub use node_core::{Inverse, Node, NodeLimits, Step, StepFault};
 pub use reply::Reply;

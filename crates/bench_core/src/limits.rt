@@ -4,8 +4,18 @@ ghost use Rattle.std.specs.Option.{SomeIff};
 ghost use Rattle.replica_core.specs.Limits.{AreNodeLimits};
 ghost use Rattle.bench_core.specs.Limits.{AreLimits, node_limits};
 
+use dots_core::LAST_CLOCK;
 use node_core::NodeLimits;
 use std::marker::Model;
+
+/// The greatest limit on events and remaining steps together.
+const MOST_ACTS: u64 = 1_000_000;
+
+/// The greatest limit on the entries of one node.
+const MOST_ENTRIES: u64 = 100_000;
+
+/// The greatest limit on the messages of one node.
+const MOST_MESSAGES: u64 = 100_000;
 
 /// The four limits of a bench, each in its range.
 #[derive(Clone, Copy, Debug, PartialEq, Eq)]
@@ -34,10 +44,10 @@ impl Limits {
         ensures { SomeIff result (AreLimits (record { acts = acts; entries = entries; clock = clock; messages = messages }))
             (record { acts = acts; entries = entries; clock = clock; messages = messages }) }
     {
-        let in_range = (1..=1_000_000).contains(&acts)
-            && (1..=100_000).contains(&entries)
-            && (1..=1_000_000_000).contains(&clock)
-            && (1..=100_000).contains(&messages);
+        let in_range = (1..=MOST_ACTS).contains(&acts)
+            && (1..=MOST_ENTRIES).contains(&entries)
+            && (1..=LAST_CLOCK).contains(&clock)
+            && (1..=MOST_MESSAGES).contains(&messages);
         if !in_range {
             return None;
         }
@@ -77,7 +87,7 @@ impl Limits {
         self.entries
     }
 
-    /// The limit on the own clock of one node: 1 to 1,000,000,000.
+    /// The limit on the own clock of one node: 1 to `LAST_CLOCK`.
     pub fn clock(self) -> u64
         ensures value { result ≡ self.clock }
         ensures range { AreLimits self }

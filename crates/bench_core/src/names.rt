@@ -1,13 +1,14 @@
 //! `Names`: the names of the nodes, with their numbers.
 ghost use Rattle.std.specs.Prelude.{◌≡◌, ◌↔◌, ◌⊎◌, ◌<◌, ◌≤◌, Err, Ok, length, map, slice_get, option_copied, IsTrue, IfOk};
 ghost use Rattle.std.specs.List.{list_all};
+ghost use Rattle.dots_core.specs.Names.{most_names};
 ghost use Rattle.payload_core.specs.Answers.{GivesUnless};
 ghost use Rattle.bench_core.specs.NameText.{is_name, is_name_byte};
 ghost use Rattle.bench_core.specs.NameList.{names_of, with_name, with_names, number_in};
 
 use crate::names_fault::NamesFault;
 use crate::texts::TextSet;
-use dots_core::Oom;
+use dots_core::{MOST_NAMES, Oom};
 use std::alloc::Allocator;
 use std::marker::Model;
 
@@ -23,11 +24,14 @@ fn has_name_bytes(bytes: &[u8]) -> bool
     bytes.iter().all(|byte| is_name_byte(*byte))
 }
 
-/// Whether the text may be a name: 1 to 16 bytes of `a-z0-9_`.
+/// The length of the longest names, in bytes.
+pub const LONGEST_NAME: usize = 16;
+
+/// Whether the text may be a name: 1 to `LONGEST_NAME` bytes of `a-z0-9_`.
 pub fn is_name(text: &str) -> bool
     ensures { result ≡ is_name text.now }
 {
-    if text.is_empty() || text.len() > 16 {
+    if text.is_empty() || text.len() > LONGEST_NAME {
         return false;
     }
     has_name_bytes(text.as_bytes())
@@ -80,7 +84,7 @@ impl<A: Allocator> Names<A> {
     pub fn len(&self) -> usize
         ensures len { result ≡ length self.now }
         ensures some { 1 ≤ result }
-        ensures few { result ≤ 32 }
+        ensures few { result ≤ most_names }
     {
         self.texts.len()
     }
@@ -122,9 +126,9 @@ impl<A: Allocator + Copy> Names<A> {
     pub fn new(alloc: A, texts: &[&str]) -> Result<Names<A>, NamesFault>
         ensures gives { GivesUnless NamesFault.OutOfMemory (λ names. names) result (names_of (map (λ text. text.now) texts.now)) }
         ensures texts { IfOk result (λ names. names ≡ map (λ text. text.now) texts.now) }
-        ensures wrong_count { (result ≡ Err NamesFault.WrongCount) ↔ ((length texts.now ≡ 0) ⊎ (32 < length texts.now)) }
+        ensures wrong_count { (result ≡ Err NamesFault.WrongCount) ↔ ((length texts.now ≡ 0) ⊎ (most_names < length texts.now)) }
     {
-        if texts.is_empty() || texts.len() > 32 {
+        if texts.is_empty() || texts.len() > usize::from(MOST_NAMES) {
             return Err(NamesFault::WrongCount);
         }
         let mut names = TextSet::new(alloc);

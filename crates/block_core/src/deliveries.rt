@@ -11,7 +11,7 @@ ghost use Rattle.block_core.specs.Sets.{AreBlocks, RisingBlocks, set_map};
 
 use crate::block::Block;
 use crate::blocks::{block_at, live_bits, place};
-use dots_core::{Dot, DotSet, NameSet, Oom};
+use dots_core::{Dot, DotSet, MOST_NAMES, NameSet, Oom};
 use entry_core::{Handle, mask};
 use std::alloc::Allocator;
 
@@ -73,8 +73,8 @@ fn next_new<A: Allocator>(
     match block_at(message, at) {
         Some(block) => {
             let name = block.name();
-            // form: no entry has a name from 32 on; the test spares a requirement that says so
-            if name >= 32 {
+            // form: no entry has a name from `MOST_NAMES` on; the test spares a requirement that says so
+            if name >= MOST_NAMES {
                 return at;
             }
             // form: clock 0 is never seen; the test spares a requirement that no entry has it

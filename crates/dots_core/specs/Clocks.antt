@@ -1,5 +1,6 @@
 -- The clocks of one name's dots, as a set keeps them: those from 1 to a clock, and those in a cloud above it.
 use Rattle.std.specs.Prelude.{◌≡◌, ℕ, ◌+◌, ◌<◌, ◌≤◌, ◌==◌, nat_lt, nat_le, Bool, true, false, not, ◌&&◌, ◌||◌, List, [], ◌∷◌, Option, None, Some}
+use Rattle.dots_core.specs.Dots.{last_clock}
 
 pub record Clocks : Type 0 where
   pub clock : ℕ
@@ -30,11 +31,11 @@ IsFirstFrom p k (Some f) = (k ≤ f) × (holds p f ≡ true) × ((j : ℕ) → k
 -- each clock is above the one before it, the first above b, and none is past the last clock
 abbrev pub RisesAbove : ℕ → List ℕ → Type 0
 RisesAbove b [] = Unit {0}
-RisesAbove b (c ∷ cs) = (b < c) × (c ≤ 1000000000) × RisesAbove c cs
+RisesAbove b (c ∷ cs) = (b < c) × (c ≤ last_clock) × RisesAbove c cs
 
 -- the one way to keep these clocks: the cloud rises, and the clock after `clock` is not one of them
 pub record IsCanonical (p : Clocks) : Type 0 where
-  pub last : p.clock ≤ 1000000000
+  pub last : p.clock ≤ last_clock
   pub rises : RisesAbove (p.clock + 1) p.cloud
 
 -- none of the clocks is above k

@@ -5,12 +5,17 @@ use Rattle.std.specs.Ordering.{nat_cmp, ordering_then}
 use Rattle.std.specs.FinSet as set
 use Rattle.std.specs.Coded.{Coded, code_by, coded×, coded_ℕ}
 use Rattle.dots_core.specs.declared.dot.Dot.{Dot}
+use Rattle.dots_core.specs.Names.{most_names}
+
+-- the last clock that a dot may have
+abbrev pub last_clock : ℕ
+last_clock = 1000000000
 
 -- a dot that a set may hold: its name is a replica's number, and its clock is from 1 to the last
 pub record IsValid (d : Dot) : Type 0 where
-  pub name : d.name < 32
+  pub name : d.name < most_names
   pub first : 1 ≤ d.clock
-  pub last : d.clock ≤ 1000000000
+  pub last : d.clock ≤ last_clock
 
 -- dots are ordered by name, and then by clock
 abbrev pub dot_cmp : Dot → Dot → Ordering

@@ -1,7 +1,7 @@
 -- A set of names, kept as a list that says of each name whether it is in.
 use Rattle.std.specs.Prelude.{ℕ, zero, suc, Bool, List, [], ◌∷◌, if◌then◌else◌}
 use Rattle.std.specs.FinSet as set
-use Rattle.dots_core.specs.Names.{Names}
+use Rattle.dots_core.specs.Names.{most_names, Names}
 
 -- the places from n on at which the list has true
 abbrev pub names_from : ℕ → List Bool → Names
@@ -17,4 +17,4 @@ flags_from n zero names = []
 flags_from n (suc m) names = set.contains names n ∷ flags_from (suc n) m names
 
 unfoldable pub flags_of : Names → List Bool
-flags_of names = flags_from 0 32 names
+flags_of names = flags_from 0 most_names names

@@ -5,7 +5,7 @@ use Rattle.std.proofs.lemmas.List.{ext_get_or}
 use Rattle.std.specs.Cmp.{nat_cmp_total, unsigned_tied}
 use Rattle.std.specs.Ordering.{nat_cmp}
 use Rattle.std.specs.FinSet as set
-use Rattle.dots_core.specs.Names.{Names}
+use Rattle.dots_core.specs.Names.{most_names, Names}
 use Rattle.dots_core.specs.Flags.{names_from, names_of_flags, flags_from, flags_of}
 
 pub contains-insert_name : (s : Names) (k q : ℕ) → set.contains (set.insert s k) q ≡ ((q == k) || set.contains s q)
@@ -45,10 +45,10 @@ flag_at n zero s j h = absurd (omega arith)
 flag_at n (suc m) s zero h = let e : n ≡ n + 0 = omega arith in ap (set.contains s) e
 flag_at n (suc m) s (suc j) h = let e : suc n + j ≡ n + suc j = omega arith in flag_at (suc n) m s j (omega arith) ∙ ap (set.contains s) e
 
-pub flags_of-names_of_flags : (bs : List Bool) → length bs ≡ 32 → flags_of (names_of_flags bs) ≡ bs
+pub flags_of-names_of_flags : (bs : List Bool) → length bs ≡ most_names → flags_of (names_of_flags bs) ≡ bs
 unfolding flags_of
 flags_of-names_of_flags bs l =
-    let long = length-flags_from 0 32 (names_of_flags bs) in
+    let long = length-flags_from 0 most_names (names_of_flags bs) in
     ext_get_or false _ bs (long ∙ sym l)
-    (λ k h. let within : k < 32 = omega arith in let e : 0 + k ≡ k = omega arith in flag_at 0 32 (names_of_flags bs) k within
+    (λ k h. let within : k < most_names = omega arith in let e : 0 + k ≡ k = omega arith in flag_at 0 most_names (names_of_flags bs) k within
     ∙ ap (set.contains (names_of_flags bs)) e ∙ contains-names_of_flags bs k)

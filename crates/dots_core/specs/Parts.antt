@@ -2,6 +2,7 @@
 use Rattle.std.specs.Prelude.{◌≡◌, ℕ, zero, suc, List, [], ◌∷◌, ◌++◌, map, length, slice_index_or}
 use Rattle.std.specs.FinSet as set
 use Rattle.std.specs.List.{AllByRecursion}
+use Rattle.dots_core.specs.Names.{most_names}
 use Rattle.dots_core.specs.declared.dot.Dot.{Dot}
 use Rattle.dots_core.specs.Dots.{Dots, dot}
 use Rattle.dots_core.specs.Clocks.{Clocks, no_clocks, IsCanonical}
@@ -28,5 +29,5 @@ AllCanonical ps = AllByRecursion IsCanonical ps
 
 -- one part for each name, each kept in its one form
 pub record AreParts (ps : List Clocks) : Type 0 where
-  pub names : length ps ≡ 32
+  pub names : length ps ≡ most_names
   pub canonical : AllCanonical ps

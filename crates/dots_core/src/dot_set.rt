@@ -8,9 +8,10 @@ ghost use Rattle.dots_core.specs.Contexts.{HasAllOf, IsContext, IsNext, IsLast, 
 ghost use Rattle.dots_core.specs.Clocks.{no_clocks};
 ghost use Rattle.dots_core.specs.Parts.{AreParts};
 ghost use Rattle.dots_core.specs.Unions.{IsUnionFrom};
+ghost use Rattle.dots_core.specs.Names.{most_names};
 
 use crate::Oom;
-use crate::dot::Dot;
+use crate::dot::{Dot, MOST_NAMES};
 use crate::name_set::NameSet;
 use crate::part::Part;
 use crate::union::grown;
@@ -81,7 +82,7 @@ impl<A: Allocator> DotSet<A> {
 
     /// The context clock of the name: 0 if the set lacks the name's dot with the clock 1.
     pub fn clock_of(&self, name: u16) -> u64
-        requires { name < 32 }
+        requires { name < most_names }
         ensures { IsContext self.now name result }
     {
         let part = &self.parts[usize::from(name)];
@@ -90,7 +91,7 @@ impl<A: Allocator> DotSet<A> {
 
     /// The cloud of the name: its clocks above the context clock, rising.
     pub fn cloud_of(&self, name: u16) -> &[u64]
-        requires { name < 32 }
+        requires { name < most_names }
         ensures { IsCloudOf self.now name result.now }
     {
         let part = &self.parts[usize::from(name)];
@@ -102,7 +103,7 @@ impl<A: Allocator> DotSet<A> {
         ensures { IsTrue result ↔ (self.now ≡ set.empty) }
     {
         // form: a loop over the names, for the proof
-        for name in 0..32 {
+        for name in 0..usize::from(MOST_NAMES) {
             if !self.parts[name].is_empty() {
                 return false;
             }
@@ -115,7 +116,7 @@ impl<A: Allocator> DotSet<A> {
         ensures { IsTrue result ↔ (self.now ≡ other.now) }
     {
         // form: a loop over the names, for the proof
-        for name in 0..32 {
+        for name in 0..usize::from(MOST_NAMES) {
             if !self.parts[name].same(&other.parts[name]) {
                 return false;
             }
@@ -126,7 +127,7 @@ impl<A: Allocator> DotSet<A> {
     /// Whether the set has each dot of `name` that `other` has. Each clock in the cloud of `other` above this set's
     /// context clock takes a binary search.
     pub fn has_all_of<'call>(&'call self, other: &'call DotSet<A>, name: u16) -> bool
-        requires { name < 32 }
+        requires { name < most_names }
         ensures { IsTrue result ↔ HasAllOf name self.now other.now }
     {
         let at = usize::from(name);
@@ -139,7 +140,7 @@ impl<A: Allocator> DotSet<A> {
     pub fn first_from(&self, names: NameSet, dot: Dot) -> Option<Dot>
         ensures { IsFirstDot (set.contains names) self.now dot result }
     {
-        for name in dot.name.min(32)..32 {
+        for name in dot.name.min(MOST_NAMES)..MOST_NAMES {
             if names.has(name) {
                 let part = &self.parts[usize::from(name)];
                 if let Some(clock) = part.first_from(clock_from(dot, name)) {
@@ -181,7 +182,7 @@ impl<A: Allocator> DotSet<A> {
     pub fn union_known(&mut self, other: &DotSet<A>, known: NameSet, own: u16) -> Result<(), Oom>
     where
         A: Copy,
-        requires { own < 32 }
+        requires { own < most_names }
         ensures ok { OnOk result (self.new ≡ set.union self.old (of_names (λ n. set.contains known n && not (n == own)) other.now)) }
         ensures err { OnErr result (self.new ≡ self.old) }
     {
@@ -230,7 +231,7 @@ impl<A: Allocator> DotSet<A> {
     pub fn part_of(&self, name: u16) -> Result<Part<A>, Oom>
     where
         A: Copy,
-        requires { name < 32 }
+        requires { name < most_names }
         ensures part { IfOk result (IsPartOf self.now name) }
         ensures whole { IfOk result (λ part. with_part name part self.now ≡ self.now) }
     {
@@ -241,7 +242,7 @@ impl<A: Allocator> DotSet<A> {
     pub fn drop_name(&mut self, name: u16) -> Part<A>
     where
         A: Copy,
-        requires { name < 32 }
+        requires { name < most_names }
         ensures part { IsPartOf self.old name result }
         ensures rest { self.new ≡ others name self.old }
         ensures whole { with_part name result self.new ≡ self.old }
@@ -253,7 +254,7 @@ impl<A: Allocator> DotSet<A> {
     /// Replaces the name's context clock and cloud by `part`. If `part_of` or `drop_name` gave `part` for this name,
     /// `laws::part_law` says that the name's dots are again what they were then.
     pub fn set_part(&mut self, name: u16, part: Part<A>)
-        requires { name < 32 }
+        requires { name < most_names }
         ensures part { IsPartOf self.new name part }
         ensures rest { others name self.new ≡ others name self.old }
         ensures whole { self.new ≡ with_part name part self.old }
@@ -300,12 +301,12 @@ fn union_from<A: Allocator + Copy>(
 ) -> Result<(), Oom>
     requires own { AreParts parts.old }
     requires other { AreParts others.now }
-    requires name { name ≤ 32 }
+    requires name { name ≤ most_names }
     ensures parts { AreParts parts.new }
     ensures ok { OnOk result (IsUnionFrom names name parts.old others.now parts.new) }
     ensures err { OnErr result (parts.new ≡ parts.old) }
 {
-    if name == 32 {
+    if name == MOST_NAMES {
         return Ok(());
     }
     if !names.has(name) {

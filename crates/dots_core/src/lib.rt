@@ -15,7 +15,7 @@ mod name_set;
 mod part;
 mod union;
 
-pub use dot::Dot;
+pub use dot::{Dot, LAST_CLOCK, MOST_NAMES};
 pub use dot_set::DotSet;
 pub use name_set::NameSet;
 pub use part::Part;

@@ -3,11 +3,12 @@
 ghost use Rattle.std.specs.Prelude.{◌≡◌, ◌<◌, ◌↔◌, IsTrue, nat_lt};
 ghost use Rattle.std.specs.List.{list_all};
 ghost use Rattle.std.specs.FinSet as set;
-ghost use Rattle.dots_core.specs.Names.{AreNamesBelow, HasAll};
+ghost use Rattle.dots_core.specs.Names.{most_names, AreNamesBelow, HasAll};
 
+use crate::dot::MOST_NAMES;
 use std::marker::Model;
 
-/// A set of numbers below 32, each a replica's name.
+/// A set of numbers below `MOST_NAMES`, each a replica's name.
 #[derive(Clone, Copy, Debug)]
 pub struct NameSet {
     has: [bool; 32],
@@ -17,7 +18,7 @@ impl Model for NameSet {
     ghost use Rattle.std.specs.Prelude.{◌≡◌, length};
     ghost use Rattle.std.specs.Coded.{coded_ℕ};
     ghost use Rattle.std.specs.FinSet as set;
-    ghost use Rattle.dots_core.specs.Names.{Names};
+    ghost use Rattle.dots_core.specs.Names.{most_names, Names};
     ghost use Rattle.dots_core.specs.Flags.{names_of_flags, flags_of};
     ghost use Rattle.dots_core.specs.FlagsBack.{flags_of-names_of_flags};
 
@@ -27,7 +28,7 @@ impl Model for NameSet {
 
     ghost view = { λ s. names_of_flags s.has };
 
-    ghost invariant = { λ s. length s.has ≡ 32 };
+    ghost invariant = { λ s. length s.has ≡ most_names };
 
     ghost inverse = { λ names. record { has = flags_of names } };
 
@@ -44,7 +45,7 @@ impl NameSet {
 
     /// The set with the name put in.
     pub fn with(mut self, name: u16) -> NameSet
-        requires { name < 32 }
+        requires { name < most_names }
         ensures { result ≡ set.insert self name }
     {
         self.has[usize::from(name)] = true;
@@ -53,7 +54,7 @@ impl NameSet {
 
     /// The set with the name taken out.
     pub fn without(mut self, name: u16) -> NameSet
-        requires { name < 32 }
+        requires { name < most_names }
         ensures { result ≡ set.remove self name }
     {
         self.has[usize::from(name)] = false;
@@ -64,7 +65,7 @@ impl NameSet {
     pub fn has(self, name: u16) -> bool
         ensures { result ≡ set.contains self name }
     {
-        name < 32 && self.has[usize::from(name)]
+        name < MOST_NAMES && self.has[usize::from(name)]
     }
 
     /// Whether each name in the set is below `count`.
@@ -81,15 +82,15 @@ impl NameSet {
         self.has == other.has
     }
 
-    /// Does nothing. Its contract says that each of the names is below 32.
+    /// Does nothing. Its contract says that each of the names is below `MOST_NAMES`.
     pub fn names_law(self)
-        ensures { AreNamesBelow 32 self }
+        ensures { AreNamesBelow most_names self }
     {
         // form: the proof reads the field here
         let _ = &self.has;
     }
 
-    /// The set of all 32 names.
+    /// The set of all names.
     pub(crate) fn all() -> NameSet
         ensures { HasAll result }
     {

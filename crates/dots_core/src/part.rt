@@ -4,6 +4,7 @@ ghost use Rattle.std.specs.Prelude.{◌≡◌, ℕ, ◌+◌, ◌-◌, ◌*◌, �
 ghost use Rattle.dots_core.specs.ClockBits.{has_bit};
 ghost use Rattle.dots_core.specs.Clocks.{no_clocks, holds, HoldsAllOf, IsCanonical, IsFirstFrom, IsGreatest, Gains, Loses};
 ghost use Rattle.dots_core.specs.Absorbed.{absorbed, numbers};
+ghost use Rattle.dots_core.specs.Dots.{last_clock};
 
 use crate::Oom;
 use crate::clock_bits::{cloud_bits, run_bits};
@@ -106,7 +107,7 @@ impl<A: Allocator> Part<A> {
     /// the cloud, which may ask for memory.
     pub(crate) fn insert(&mut self, clock: u64) -> Result<bool, Oom>
         requires positive { 0 < clock }
-        requires last { clock ≤ 1000000000 }
+        requires last { clock ≤ last_clock }
         ensures canonical { IsCanonical self.new }
         ensures ok { OnOk result (Gains self.old clock self.new) }
         ensures new { IfOk result (λ is_new. is_new ≡ not (holds self.old clock)) }
@@ -176,8 +177,8 @@ fn clock_at(cloud: &[u64], place: usize) -> Option<u64>
 
 /// How many clocks at the front of `cloud` follow `clock` without a gap: `clock + 1`, `clock + 2` and so on.
 fn run_after(clock: u64, cloud: &[u64]) -> usize
-    requires clock { clock ≤ 1000000000 }
-    requires cloud { All (λ c. c ≤ 1000000000) cloud.now }
+    requires clock { clock ≤ last_clock }
+    requires cloud { All (λ c. c ≤ last_clock) cloud.now }
     ensures within { result ≤ length cloud.now }
     ensures run { absorbed clock cloud.now ≡ record { clock = clock + result; cloud = drop result cloud.now } }
 {

@@ -3,6 +3,7 @@
 ghost use Rattle.std.specs.Prelude.{◌≡◌, ℕ, ◌<◌, ◌≤◌, [], ◌++◌, true, false, ◌||◌, IfOk, OnOk, MatchOption, length};
 ghost use Rattle.dots_core.specs.Clocks.{is_among, RisesAbove, IsCanonical, IsUnion, Gains, holds};
 ghost use Rattle.dots_core.specs.Unions.{HasEach, IsGrown, IsLeast, without_first, AddsOnly};
+ghost use Rattle.dots_core.specs.Dots.{last_clock};
 
 use crate::Oom;
 use crate::part::Part;
@@ -88,7 +89,7 @@ fn after(clocks: &[u64], clock: u64) -> &[u64]
 /// changes; if `clock` is the next after the context clock, the context clock moves on to `clock`.
 fn add_last<A: Allocator>(part: &mut Part<A>, clock: u64) -> Result<(), Oom>
     requires positive { 0 < clock }
-    requires last { clock ≤ 1000000000 }
+    requires last { clock ≤ last_clock }
     requires above { (k : ℕ) → is_among k part.old.cloud ≡ true → k < clock }
     ensures canonical { IsCanonical part.new }
     ensures ok { OnOk result (Gains part.old clock part.new) }

@@ -8,9 +8,13 @@ use Rattle.entry_core.specs.declared.word.WordFault.TheVariants.{BadWord}
 abbrev pub is_word_byte : ℕ → Bool
 is_word_byte byte = nat_le 33 byte && nat_le byte 126
 
--- 1 to 200 bytes, each of them visible
+-- the length of the longest words, in bytes
+abbrev pub longest_word : ℕ
+longest_word = 200
+
+-- 1 to `longest_word` bytes, each of them visible
 abbrev pub is_word : List ℕ → Bool
-is_word text = (nat_le 1 (length text) && nat_le (length text) 200) && list_all is_word_byte text
+is_word text = (nat_le 1 (length text) && nat_le (length text) longest_word) && list_all is_word_byte text
 
 -- the word of a text, or the fault of a text that is no word
 abbrev pub word_of : List ℕ → Result (List ℕ) WordFault

@@ -22,4 +22,4 @@ pub use entry::Entry;
 pub use entry_list::EntryList;
 pub use handle::Handle;
 pub use spare::{OwnList, Spare};
-pub use word::{Word, WordFault};
+pub use word::{LONGEST_WORD, Word, WordFault};

@@ -23,7 +23,7 @@ use thiserror::Error;
 const SHORT: usize = 14;
 
 /// The length of the longest words, in bytes.
-const LONGEST: usize = 200;
+pub const LONGEST_WORD: usize = 200;
 
 /// Why no `Word` was made of a text.
 #[derive(Clone, Copy, Debug, PartialEq, Eq, Error)]
@@ -94,7 +94,7 @@ impl<A: Allocator> Word<A> {
         ensures gives { GivesUnless OutOfMemory (λ word. word) result (word_of text.now) }
         ensures bad_word { is_word text.now ≡ false → result ≡ Err WordFault.BadWord }
     {
-        if text.is_empty() || text.len() > LONGEST {
+        if text.is_empty() || text.len() > LONGEST_WORD {
             return Err(WordFault::BadWord);
         }
         if !has_word_bytes(text.as_bytes()) {

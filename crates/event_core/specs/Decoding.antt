@@ -5,7 +5,7 @@ use Rattle.std.specs.Str.{bytes_eq}
 use Rattle.std.specs.FinSet as set
 use Rattle.serde_json.specs.Data.{Data, Items, no_items, item}
 use Rattle.serde_json.specs.Find.{at, as_array, as_number, as_u64}
-use Rattle.dots_core.specs.Names.{Names}
+use Rattle.dots_core.specs.Names.{most_names, Names}
 use Rattle.payload_core.specs.Presences.{Presence}
 use Rattle.payload_core.specs.Words.{is_word}
 use Rattle.node_core.specs.Operations.{Operation, Join, Leave, LeaveAll, Update, Broadcast, Extract, Deliver, Request, Answer, Up, Down, Permdown}
@@ -58,12 +58,12 @@ leave_all_at d = do
 abbrev pub number_of : Data → Option ℕ
 number_of d = option_and_then as_u64 (as_number d)
 
--- the set of these numbers: each is below 32 and above those before it, which end below `least`
+-- the set of these numbers: each is below `most_names` and above those before it, which end below `least`
 abbrev pub names_from : ℕ → Names → Items → Option Names
 names_from least names no_items = Some names
 names_from least names (item d ds) = do
   n ← number_of d
-  if nat_le least n && nat_lt n 32 then names_from (n + 1) (set.insert names n) ds else None
+  if nat_le least n && nat_lt n most_names then names_from (n + 1) (set.insert names n) ds else None
 
 unfoldable pub extract_at : Data → Option Operation
 extract_at d = do

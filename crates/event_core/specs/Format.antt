@@ -3,7 +3,7 @@ use Rattle.std.specs.Prelude.{ℕ, ◌+◌, zero, suc, List, [], ◌∷◌, map,
 use Rattle.std.specs.FinSet as set
 use Rattle.serde_json.specs.Data.{Data, number, unsigned, string, array}
 use Rattle.serde_json.specs.View.{items_of}
-use Rattle.dots_core.specs.Names.{Names}
+use Rattle.dots_core.specs.Names.{most_names, Names}
 use Rattle.node_core.specs.Operations.{Operation, Join, Leave, LeaveAll, Update, Broadcast, Extract, Deliver, Request, Answer, Up, Down, Permdown}
 use Rattle.bench_core.specs.declared.reply.Reply.{Reply}
 use Rattle.bench_core.specs.declared.reply.Reply.TheVariants.{Taken, Undone, Refused}
@@ -28,7 +28,7 @@ numbers_from names first (suc count) =
 
 -- the numbers of a set of names, rising
 abbrev pub numbers_of : Names → List ℕ
-numbers_of names = numbers_from names 0 32
+numbers_of names = numbers_from names 0 most_names
 
 -- what a step asks, after the word `do`
 abbrev pub step_data : Operation → List Data

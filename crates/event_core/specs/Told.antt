@@ -3,7 +3,7 @@ use Rattle.std.specs.Prelude.{◌≡◌, nat_lt, true}
 use Rattle.payload_core.specs.Words.{is_word}
 use Rattle.payload_core.specs.Presences.{Presence}
 use Rattle.node_core.specs.Operations.{Operation, Join, Leave, LeaveAll, Update, Broadcast, Extract, Deliver, Request, Answer, Up, Down, Permdown}
-use Rattle.dots_core.specs.Names.{AreNamesBelow}
+use Rattle.dots_core.specs.Names.{most_names, AreNamesBelow}
 use Rattle.bench_core.specs.declared.reply.Reply.{Reply}
 use Rattle.bench_core.specs.declared.reply.Reply.TheVariants.{Refused}
 use Rattle.bench_core.specs.declared.fault.Fault.{Fault}
@@ -22,7 +22,7 @@ IsOperation (Leave pid topic key) = (is_word topic ≡ true) × (is_word key ≡
 IsOperation (LeaveAll pid) = Unit {0}
 IsOperation (Update p) = IsPresence p
 IsOperation Broadcast = Unit {0}
-IsOperation (Extract names) = AreNamesBelow 32 names
+IsOperation (Extract names) = AreNamesBelow most_names names
 IsOperation (Deliver sender number) = nat_lt sender 65536 ≡ true
 IsOperation Request = Unit {0}
 IsOperation (Answer sender number) = nat_lt sender 65536 ≡ true

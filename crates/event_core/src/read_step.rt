@@ -10,7 +10,7 @@ ghost use Rattle.std.specs.FinSet as set;
 
 use crate::places::{node_in, word_in};
 use bench_core::Step;
-use dots_core::NameSet;
+use dots_core::{MOST_NAMES, NameSet};
 use json_core::{Unread, ends_at, number_in, text_in};
 use payload_core::Word;
 use serde_json::Value;
@@ -117,7 +117,7 @@ fn leave_all_at<A: Allocator>(list: &Value) -> Result<Step<A>, Unread>
     Ok(Step::LeaveAll { pid })
 }
 
-/// The set of names with these numbers; `None` unless they are whole, rise and are below 32.
+/// The set of names with these numbers; `None` unless they are whole, rise and are below `MOST_NAMES`.
 fn names_from(values: &[Value]) -> Option<NameSet>
     ensures { option_map (λ names. names) result ≡ names_from 0 set.empty (items_view values.now) }
 {
@@ -125,7 +125,7 @@ fn names_from(values: &[Value]) -> Option<NameSet>
     let mut least = 0;
     for value in values {
         let number = value.as_u64()?;
-        if number < least || number >= 32 {
+        if number < least || number >= u64::from(MOST_NAMES) {
             return None;
         }
         names = names.with(number as u16);

@@ -2,7 +2,7 @@
 ghost use Rattle.std.specs.Prelude.{◌≡◌, ◌∷◌, [], IfOk, codes, map};
 ghost use Rattle.serde_json.specs.Data.{string};
 ghost use Rattle.serde_json.specs.View.{view};
-ghost use Rattle.dots_core.specs.Names.{AreNamesBelow};
+ghost use Rattle.dots_core.specs.Names.{most_names, AreNamesBelow};
 ghost use Rattle.node_core.specs.Operations.{plain, Extract};
 ghost use Rattle.bench_core.specs.Acts.{plain_act, Do};
 ghost use Rattle.event_core.specs.Format.{list, whole, numbers_of, act_json};
@@ -38,7 +38,7 @@ fn numbers_value(heap: Global, numbers: &[u16]) -> Result<Value, AllocError>
 
 fn extract_value(heap: Global, names: NameSet) -> Result<Value, AllocError>
     ensures json { IfOk result (λ v. view v ≡ act_json (Do (Extract names))) }
-    ensures told { AreNamesBelow 32 names }
+    ensures told { AreNamesBelow most_names names }
 {
     // form: hands out what the value keeps
     names.names_law();

@@ -3,6 +3,7 @@ use Rattle.std.specs.Prelude.{◌≡◌, ℕ, ◌<◌, if◌then◌else◌, List
 use Rattle.std.specs.List.{AllByRecursion}
 use Rattle.dots_core.specs.declared.dot.Dot.{Dot}
 use Rattle.dots_core.specs.Dots.{dot}
+use Rattle.dots_core.specs.Names.{most_names}
 use Rattle.replica_core.specs.declared.node_limits.NodeLimits.{NodeLimits}
 use Rattle.replica_core.specs.Replicas.{fresh, last}
 use Rattle.node_core.specs.Nodes.{Node}
@@ -40,5 +41,5 @@ own_of_all c (suc n) = own_of_all c n ++ own_of (slice_get c n)
 
 -- if the steps are accepted, these are all dots that the question is about
 pub record AreAsked (l : NodeLimits) (count : ℕ) (steps : List Kept) (q : Question) (dots : List Dot) : Type 0 where
-  pub names : AllByRecursion (λ (d : Dot). d.name < 32) dots
+  pub names : AllByRecursion (λ (d : Dot). d.name < most_names) dots
   pub wants : (end : Cluster) → runs l count steps ≡ Ok end → Wants l steps count (is_wanted dots) q

@@ -9,6 +9,7 @@ use Rattle.network_core.specs.Cones.{position, Cone}
 use Rattle.network_core.specs.Made.{WantsMade}
 use Rattle.network_core.specs.Seen.{WantsSeen}
 use Rattle.dots_core.specs.declared.dot.Dot.{Dot}
+use Rattle.dots_core.specs.Names.{most_names}
 use Rattle.network_core.specs.Room.{made}
 use Rattle.network_core.specs.Settling.{Walk}
 use Rattle.network_rules.specs.declared.turn.Turn.{Turn}
@@ -93,7 +94,7 @@ Wants l j count wanted (OfPresence node topic key) = WantsMade l j wanted topic 
 -- the turns and ranks are those of the plan's steps, which make no more entries than a node may hold; and the tables
 -- leave out nothing that matters for the question
 pub record IsPlan (p : Plan) (q : Question) : Type 0 where
-  pub few : p.count ≤ 32
+  pub few : p.count ≤ most_names
   pub limits : AreNodeLimits p.limits
   pub turns : p.turns ≡ turns_of p.steps p.count
   pub ranks : p.ranks ≡ ranks_of p.turns p.steps

@@ -5,6 +5,7 @@ ghost use Rattle.replica_core.specs.Limits.{AreNodeLimits};
 ghost use Rattle.replica_core.specs.Replicas.{fresh};
 ghost use Rattle.std.specs.List.{AllByRecursion};
 ghost use Rattle.dots_core.specs.declared.dot.Dot.{Dot as PlainDot};
+ghost use Rattle.dots_core.specs.Names.{most_names};
 ghost use Rattle.node_core.specs.Operations.{plain as plain_step};
 ghost use Rattle.replica_core.specs.declared.node_limits.NodeLimits.{NodeLimits as PlainLimits};
 ghost use Rattle.bench_core.specs.Clusters.{opening_of, Cluster as PlainCluster};
@@ -49,7 +50,7 @@ fn is_asked<A: Allocator>(step: &Step<A>, wanted_topic: &Word<A>, wanted_key: &W
 /// The node's fresh dot: the own dot one above the last that it took.
 fn fresh<'a, B: Allocator>(node: &Node<'a, B>) -> Dot
     ensures dot { result ≡ fresh node.now.replica }
-    ensures name { result.name < 32 }
+    ensures name { result.name < most_names }
 {
     // form: hands out what the value keeps
     node.replica().replica_law();
@@ -70,8 +71,8 @@ fn put_asked<'a, B: Allocator>(
     key: &Word<&'a B>,
 ) -> Result<(), Oom>
     ensures dots { OnOk result (dots.new.items ≡ dots.old.items ++ asked_dots topic.now key.now kept.now (slice_get cluster.now kept.now.node)) }
-    ensures names { OnOk result (AllByRecursion (λ (d : PlainDot). d.name < 32) dots.old.items
-        → AllByRecursion (λ (d : PlainDot). d.name < 32) dots.new.items) }
+    ensures names { OnOk result (AllByRecursion (λ (d : PlainDot). d.name < most_names) dots.old.items
+        → AllByRecursion (λ (d : PlainDot). d.name < most_names) dots.new.items) }
 {
     if !is_asked(&kept.step, topic, key) {
         return Ok(());
@@ -90,8 +91,8 @@ fn put_all_asked<'a, B: Allocator>(
     topic: &Word<&'a B>,
     key: &Word<&'a B>,
 ) -> Result<(), Oom>
-    ensures names { OnOk result (AllByRecursion (λ (d : PlainDot). d.name < 32) dots.old.items
-        → AllByRecursion (λ (d : PlainDot). d.name < 32) dots.new.items) }
+    ensures names { OnOk result (AllByRecursion (λ (d : PlainDot). d.name < most_names) dots.old.items
+        → AllByRecursion (λ (d : PlainDot). d.name < most_names) dots.new.items) }
     ensures asked { OnOk result ((l : PlainLimits) (count : ℕ) (end : PlainCluster) → cluster.old ≡ opening_of l count → dots.old.items ≡ []
         → runs l count steps.now ≡ Ok end →
         WantsMade l steps.now (is_wanted dots.new.items) topic.now key.now) }
@@ -112,7 +113,7 @@ fn dots_of_presences<'a, B: Allocator>(
     key: &Word<&'a B>,
     alloc: &'a B,
 ) -> Result<Vec<Dot, &'a B>, Oom>
-    requires few { count ≤ 32 }
+    requires few { count ≤ most_names }
     requires limits { AreNodeLimits limits }
     ensures { IfOk result (λ dots. (node : ℕ) → AreAsked limits count steps.now (OfPresence node topic.now key.now) dots.items) }
 {
@@ -144,8 +145,8 @@ fn put_own_of<'a, B: Allocator>(
     node: Option<&Node<'a, B>>,
 ) -> Result<(), Oom>
     ensures dots { OnOk result (dots.new.items ≡ dots.old.items ++ own_of (option_map (λ n. n.now) node.entry)) }
-    ensures names { OnOk result (AllByRecursion (λ (d : PlainDot). d.name < 32) dots.old.items
-        → AllByRecursion (λ (d : PlainDot). d.name < 32) dots.new.items) }
+    ensures names { OnOk result (AllByRecursion (λ (d : PlainDot). d.name < most_names) dots.old.items
+        → AllByRecursion (λ (d : PlainDot). d.name < most_names) dots.new.items) }
 {
     match node {
         Some(node) => {
@@ -164,8 +165,8 @@ fn put_own_of_all<'a, B: Allocator>(
     count: u16,
 ) -> Result<(), Oom>
     ensures dots { OnOk result (dots.new.items ≡ dots.old.items ++ own_of_all cluster.now count) }
-    ensures names { OnOk result (AllByRecursion (λ (d : PlainDot). d.name < 32) dots.old.items
-        → AllByRecursion (λ (d : PlainDot). d.name < 32) dots.new.items) }
+    ensures names { OnOk result (AllByRecursion (λ (d : PlainDot). d.name < most_names) dots.old.items
+        → AllByRecursion (λ (d : PlainDot). d.name < most_names) dots.new.items) }
 {
     for number in 0..count {
         put_own_of(dots, cluster.node(number))?;
@@ -179,7 +180,7 @@ fn own_dots<'a, B: Allocator>(
     count: u16,
     alloc: &'a B,
 ) -> Result<Vec<Dot, &'a B>, Oom>
-    ensures names { IfOk result (λ dots. AllByRecursion (λ (d : PlainDot). d.name < 32) dots.items) }
+    ensures names { IfOk result (λ dots. AllByRecursion (λ (d : PlainDot). d.name < most_names) dots.items) }
     ensures own { IfOk result (λ dots. dots.items ≡ own_of_all cluster.now count) }
 {
     let mut dots = Vec::new(alloc);
@@ -194,9 +195,9 @@ fn dots_of_nodes<'a, B: Allocator>(
     limits: NodeLimits,
     alloc: &'a B,
 ) -> Result<Vec<Dot, &'a B>, Oom>
-    requires few { count ≤ 32 }
+    requires few { count ≤ most_names }
     requires limits { AreNodeLimits limits }
-    ensures names { IfOk result (λ dots. AllByRecursion (λ (d : PlainDot). d.name < 32) dots.items) }
+    ensures names { IfOk result (λ dots. AllByRecursion (λ (d : PlainDot). d.name < most_names) dots.items) }
     ensures own { IfOk result (λ dots. (end : PlainCluster) → runs limits count steps.now ≡ Ok end → dots.items ≡ own_of_all end count) }
 {
     let places = places(steps.len(), alloc)?;
@@ -216,7 +217,7 @@ pub(crate) fn dots_of<'a, B: Allocator>(
     question: &Question<&'a B>,
     alloc: &'a B,
 ) -> Result<Vec<Dot, &'a B>, Oom>
-    requires few { count ≤ 32 }
+    requires few { count ≤ most_names }
     requires limits { AreNodeLimits limits }
     ensures { IfOk result (λ dots. AreAsked limits count steps.now (plain question.now) dots.items) }
 {

@@ -5,6 +5,7 @@ ghost use Rattle.bench_core.specs.Clusters.{opening_of, Cluster as PlainCluster}
 ghost use Rattle.bench_core.specs.Limits.{node_limits};
 ghost use Rattle.bench_core.specs.Runs.{runs};
 ghost use Rattle.std.specs.List.{AllByRecursion};
+ghost use Rattle.dots_core.specs.Names.{most_names};
 ghost use Rattle.network_core.specs.Room.{made};
 ghost use Rattle.progress_core.specs.Watches.{Watched};
 ghost use Rattle.explore_network.specs.Explorations.{AreDistinct, AreTooMany, BeginsAsRecorded, InventsNothing, MissesNothing};
@@ -67,7 +68,7 @@ fn parts_of<'a, B: Allocator>(
     question: &Question<&'a B>,
     alloc: &'a B,
 ) -> Result<Parts<'a, B>, Oom>
-    requires few { count ≤ 32 }
+    requires few { count ≤ most_names }
     requires limits { AreNodeLimits limits }
     ensures turns { IfOk result (λ parts. parts.turns.items ≡ turns_of steps.now count) }
     ensures ranks { IfOk result (λ parts. parts.ranks.items ≡ ranks_of parts.turns.items steps.now) }
@@ -102,7 +103,7 @@ fn plan_of<'a, B: Allocator>(
     most: usize,
     alloc: &'a B,
 ) -> Result<Plan<'a, B>, Oom>
-    requires few { count ≤ 32 }
+    requires few { count ≤ most_names }
     requires limits { AreNodeLimits limits }
     requires room { made steps.items ≤ limits.entries }
     requires there { IsThere count (plain question.now) }

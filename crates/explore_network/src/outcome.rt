@@ -1,6 +1,7 @@
 //! `Outcome`: a run of the network with the cluster to which it leads.
 ghost use Rattle.std.specs.Prelude.{◌≡◌, ◌≤◌, IfOk, length};
 ghost use Rattle.std.specs.List.{AllByRecursion};
+ghost use Rattle.dots_core.specs.Names.{most_names};
 ghost use Rattle.explore_network.specs.Questions.{plain};
 ghost use Rattle.explore_network.specs.Walks.{told_by, Outcome as PlainOutcome};
 
@@ -57,8 +58,8 @@ pub(crate) fn is_told<'a, B: Allocator>(
     question: &Question<&'a B>,
     alloc: &'a B,
 ) -> Result<bool, Oom>
-    requires few { length cluster.now ≤ 32 }
-    requires all_few { AllByRecursion (λ (o : PlainOutcome). length o.cluster ≤ 32) outcomes.now }
+    requires few { length cluster.now ≤ most_names }
+    requires all_few { AllByRecursion (λ (o : PlainOutcome). length o.cluster ≤ most_names) outcomes.now }
     ensures { IfOk result (λ told. told ≡ told_by (plain question.now) outcomes.now cluster.now) }
 {
     for outcome in outcomes {

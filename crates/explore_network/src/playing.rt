@@ -1,5 +1,6 @@
 //! Plays runs that are given by the places of their steps among the recorded ones.
 ghost use Rattle.std.specs.Prelude.{◌≡◌, ◌≤◌, [], IfNone, IfOk, IfSome, OnOk, Ok, slice_get};
+ghost use Rattle.dots_core.specs.Names.{most_names};
 ghost use Rattle.node_core.specs.Inverses.{plain_inverse};
 ghost use Rattle.bench_core.specs.Benches.{LeadsClusterBack, LeadsNodeBack, NodeGoesBack};
 ghost use Rattle.replica_core.specs.Limits.{AreNodeLimits};
@@ -20,7 +21,7 @@ pub(crate) fn played<'a, B: Allocator>(
     limits: NodeLimits,
     alloc: &'a B,
 ) -> Result<Cluster<'a, B>, Oom>
-    requires few { count ≤ 32 }
+    requires few { count ≤ most_names }
     requires limits { AreNodeLimits limits }
     ensures { IfOk result (λ cluster. (end : PlainCluster) → runs limits count (steps_at steps.now path.now) ≡ Ok end → cluster ≡ end) }
 {

@@ -3,6 +3,7 @@
 ghost use Rattle.std.specs.Prelude.{◌≡◌, ◌<◌, IfOk};
 ghost use Rattle.std.specs.List.{AllByRecursion};
 ghost use Rattle.dots_core.specs.declared.dot.Dot.{Dot as PlainDot};
+ghost use Rattle.dots_core.specs.Names.{most_names};
 ghost use Rattle.network_rules.specs.Tables.{AreAllAsked, IsClosed};
 
 use crate::turns::sent;
@@ -244,7 +245,7 @@ pub(crate) fn cone_for<'a, B: Allocator>(
     count: u16,
     alloc: &'a B,
 ) -> Result<Cone<'a, B>, Oom>
-    requires { AllByRecursion (λ (d : PlainDot). d.name < 32) dots.items }
+    requires { AllByRecursion (λ (d : PlainDot). d.name < most_names) dots.items }
     ensures dots { IfOk result (λ cone. cone.dots ≡ dots.entry.items) }
     ensures closed { IfOk result (IsClosed steps.now ranks.now) }
     ensures asked { IfOk result (AreAllAsked turns.now count asked) }

@@ -1,5 +1,6 @@
 //! Whether two clusters show the same to a question.
 ghost use Rattle.std.specs.Prelude.{◌≡◌, ◌↔◌, ◌≤◌, IfOk, IsTrue, length, map, option_map, slice_get};
+ghost use Rattle.dots_core.specs.Names.{most_names};
 ghost use Rattle.change_core.specs.Questions.{rows_in};
 ghost use Rattle.explore_network.specs.Questions.{plain, replicas_in, shown};
 ghost use Rattle.explore_network.specs.SameShown.{same_rows};
@@ -54,8 +55,8 @@ fn same_replica<'a, B: Allocator>(one: Option<&Node<'a, B>>, other: Option<&Node
 
 /// Whether two clusters of at most 32 nodes each have the same replicas, node by node.
 fn same_replicas<'a, B: Allocator>(one: &Cluster<'a, B>, other: &Cluster<'a, B>) -> bool
-    requires few { length one.now ≤ 32 }
-    requires few_too { length other.now ≤ 32 }
+    requires few { length one.now ≤ most_names }
+    requires few_too { length other.now ≤ most_names }
     ensures { IsTrue result ↔ (map (λ x. x.replica) one.now ≡ map (λ x. x.replica) other.now) }
 {
     for number in 0..32u16 {
@@ -74,8 +75,8 @@ pub(crate) fn show_same<'a, B: Allocator>(
     question: &Question<&'a B>,
     alloc: &'a B,
 ) -> Result<bool, Oom>
-    requires few { length one.now ≤ 32 }
-    requires few_too { length other.now ≤ 32 }
+    requires few { length one.now ≤ most_names }
+    requires few_too { length other.now ≤ most_names }
     ensures { IfOk result (λ same. IsTrue same ↔ (shown (plain question.now) one.now ≡ shown (plain question.now) other.now)) }
 {
     match question {

@@ -7,9 +7,13 @@ pub record Cast : Type 0 where
   pub nodes : Texts
   pub consoles : Texts
 
--- at most 16 consoles
+-- how many consoles there are at most
+abbrev pub most_consoles : ℕ
+most_consoles = 16
+
+-- not too many consoles
 abbrev pub HasFew : Cast → Type 0
-HasFew cast = length cast.consoles ≤ 16
+HasFew cast = length cast.consoles ≤ most_consoles
 
 -- a node by its number, and a console by its number after those of the nodes
 abbrev pub unless_node : Option ℕ → Option ℕ → Option ℕ

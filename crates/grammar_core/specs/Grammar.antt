@@ -4,7 +4,8 @@ use Rattle.std.specs.Prelude.{Result, Ok, Err, slice_index, codes, if◌then◌e
 use Rattle.std.specs.List.{list_any}
 use Rattle.std.specs.Str.{bytes_eq}
 use Rattle.std.specs.FinSet as set
-use Rattle.dots_core.specs.Names.{Names}
+use Rattle.dots_core.specs.Names.{most_names, Names}
+use Rattle.payload_core.specs.Words.{longest_word}
 use Rattle.payload_core.specs.Answers.{◌>>=◌}
 use Rattle.payload_core.specs.Presences.{Presence}
 use Rattle.node_core.specs.Operations.{Operation, Join, Leave, LeaveAll, Update, Broadcast, Extract, Deliver, Request, Answer, Up, Down, Permdown}
@@ -14,7 +15,7 @@ use Rattle.bench_core.specs.NameText.{is_name}
 use Rattle.bench_core.specs.NameList.{Texts, names_of, number_in}
 use Rattle.bench_core.specs.Acts.{Action, Do, Undo, Back}
 use Rattle.grammar_core.specs.Words.{lines_of, words_of, is_text, number_of}
-use Rattle.grammar_core.specs.Casts.{Cast, actor_in}
+use Rattle.grammar_core.specs.Casts.{most_consoles, Cast, actor_in}
 use Rattle.grammar_core.specs.Scripts.{Command, Call, Unwind, Show, Dots, Why, Journal, Line, Script}
 use Rattle.grammar_core.specs.declared.fault.FaultKind.{FaultKind}
 use Rattle.grammar_core.specs.declared.fault.FaultKind.TheVariants.{NotText, TooLong, NoNodes, Twice, UnknownWord, WrongCount, NotAllowed, BadNumber}
@@ -110,11 +111,11 @@ with_each nodes consoles (name ∷ names) = do
   more ← with_console nodes consoles name
   with_each nodes more names
 
--- `consoles NAME ..`: 1 to 16, once
+-- `consoles NAME ..`: 1 to `most_consoles`, once
 unfoldable pub with_consoles : Cast → Texts → Result Cast FaultKind
 with_consoles cast names =
     if not (length cast.consoles == 0) then Err Twice
-    else (if (length names == 0) || nat_lt 16 (length names) then Err WrongCount
+    else (if (length names == 0) || nat_lt most_consoles (length names) then Err WrongCount
     else (with_each cast.nodes cast.consoles names >>= λ consoles. Ok (record { nodes = cast.nodes; consoles = consoles })))
 
 -- the arguments, from left to right
@@ -126,7 +127,7 @@ unfoldable pub number_at : List ℕ → Result ℕ FaultKind
 number_at digits = or_fault BadNumber (number_of digits)
 
 unfoldable pub word_at : List ℕ → Result (List ℕ) FaultKind
-word_at word = if nat_lt 200 (length word) then Err TooLong else Ok word
+word_at word = if nat_lt longest_word (length word) then Err TooLong else Ok word
 
 -- `PID TOPIC KEY META`
 unfoldable pub presence_with : List ℕ → List ℕ → List ℕ → List ℕ → Result Presence FaultKind
@@ -203,7 +204,7 @@ with_nodes nodes chosen (name ∷ names) = do
 
 unfoldable pub extract_of : Texts → Texts → Result Operation FaultKind
 extract_of nodes names =
-    if (length names == 0) || nat_lt 32 (length names) then Err WrongCount
+    if (length names == 0) || nat_lt most_names (length names) then Err WrongCount
     else (with_nodes nodes set.empty names >>= λ chosen. Ok (Extract chosen))
 
 -- `NAME NUMBER`, a message of a node
@@ -294,9 +295,16 @@ with_words reading number (first ∷ rest) =
 abbrev pub text_words : List ℕ → Result Texts FaultKind
 text_words line = if not (is_text line) then Err NotText else Ok (words_of line)
 
+-- the most bytes of a line without its line feed, and of a script
+abbrev pub longest_line : ℕ
+longest_line = 4096
+
+abbrev pub longest_script : ℕ
+longest_script = 1048576
+
 unfoldable pub with_line : Reading → ℕ → List ℕ → Result Reading FaultKind
 with_line reading number line =
-    if nat_lt 4096 (length line) then Err TooLong
+    if nat_lt longest_line (length line) then Err TooLong
     else (if not (is_text line) then Err NotText
     else with_words reading number (words_of line))
 
@@ -318,7 +326,7 @@ finished (Some cast) lines = Ok (record { cast = cast; lines = lines })
 -- the script that the bytes spell, or its first fault
 unfoldable pub script_of : List ℕ → Result Script ScriptFault
 script_of bytes =
-    if nat_lt 1048576 (length bytes) then Err (record { line = 0; kind = TooLong })
+    if nat_lt longest_script (length bytes) then Err (record { line = 0; kind = TooLong })
     else (with_lines (record { cast = None; lines = [] }) 1 (lines_of bytes) >>= λ reading. finished reading.cast reading.lines)
 
 -- the act lines of a script

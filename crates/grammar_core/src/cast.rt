@@ -12,6 +12,9 @@ use std::alloc::Allocator;
 use std::marker::Model;
 use std::mem;
 
+/// How many consoles there are at most.
+const MOST_CONSOLES: usize = 16;
+
 /// The names of the nodes and of the consoles. Actors are numbered from 0, the nodes first.
 #[derive(Drop)]
 pub struct Cast<A: Allocator> {
@@ -167,7 +170,7 @@ pub fn add_consoles<A: Allocator + Copy>(
     if cast.consoles.len() != 0 {
         return Err(FaultKind::Twice);
     }
-    if names.is_empty() || names.len() > 16 {
+    if names.is_empty() || names.len() > MOST_CONSOLES {
         return Err(FaultKind::WrongCount);
     }
     let mut consoles = TextSet::new(alloc);

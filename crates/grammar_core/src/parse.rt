@@ -2,7 +2,7 @@
 ghost use Rattle.std.specs.Prelude.{◌≡◌, ◌<◌, Err, length, map, IfErr, IsTrue};
 ghost use Rattle.std.specs.List.{list_all};
 ghost use Rattle.grammar_core.specs.Answers.{Gives, GivesScript};
-ghost use Rattle.grammar_core.specs.Grammar.{with_words, with_words_by, with_line, script_of};
+ghost use Rattle.grammar_core.specs.Grammar.{longest_script, with_words, with_words_by, with_line, script_of};
 ghost use Rattle.grammar_core.specs.Readings.{reading_view};
 ghost use Rattle.grammar_core.specs.Scripts.{plain_script};
 ghost use Rattle.grammar_core.specs.Words.{is_visible};
@@ -105,7 +105,7 @@ pub fn read_line<A: Allocator + Copy>(
 #[tactic(auto, unfolding(crate::specs::Grammar::script_of, crate::specs::Grammar::with_lines))]
 pub fn parse_script<A: Allocator + Copy>(alloc: A, bytes: &[u8]) -> Result<Script<A>, ScriptFault>
     ensures gives { GivesScript plain_script result (script_of bytes.now) }
-    ensures long { 1048576 < length bytes.now → result ≡ Err (record { line = 0; kind = TooLong }) }
+    ensures long { longest_script < length bytes.now → result ≡ Err (record { line = 0; kind = TooLong }) }
 {
     if bytes.len() > LONGEST_SCRIPT {
         return Err(ScriptFault {

@@ -1,6 +1,7 @@
 //! Reads a node's step from the words after its verb.
 ghost use Rattle.std.specs.Prelude.{◌≡◌, ◌<◌, map, IsTrue, IfOk};
 ghost use Rattle.std.specs.List.{list_all};
+ghost use Rattle.dots_core.specs.Names.{most_names};
 ghost use Rattle.node_core.specs.Operations.{plain};
 ghost use Rattle.grammar_core.specs.Answers.{Gives, Meets};
 ghost use Rattle.grammar_core.specs.Grammar.{node_at, number_at, word_at, presence_with, presence_of, join_of, update_of, leave_with, leave_of};
@@ -12,7 +13,7 @@ ghost use Rattle.grammar_core.specs.Words.{is_visible};
 use crate::fault::FaultKind;
 use crate::words::number_of;
 use bench_core::{Names, Step};
-use dots_core::NameSet;
+use dots_core::{MOST_NAMES, NameSet};
 use payload_core::{Word, WordFault};
 use std::alloc::Allocator;
 
@@ -20,7 +21,7 @@ use std::alloc::Allocator;
 #[tactic(auto, unfolding(crate::specs::Grammar::node_at))]
 fn node_at<A: Allocator>(nodes: &Names<A>, name: &str) -> Result<u16, FaultKind>
     ensures gives { Meets (λ node. node) result (node_at nodes.now name.now) }
-    ensures small { IfOk result (λ node. node < 32) }
+    ensures small { IfOk result (λ node. node < most_names) }
 {
     // form: the proof reads that there are at most 32 nodes
     let _few = nodes.len();
@@ -257,13 +258,13 @@ fn with_node<A: Allocator>(
     Ok(chosen.with(node))
 }
 
-/// Reads an extract: `NAME ..`. `WrongCount` if there are no names or more than 32; after that, the fault of the first
-/// name that `with_node` refuses.
+/// Reads an extract: `NAME ..`. `WrongCount` if there are no names or more than `MOST_NAMES`; after that, the fault of
+/// the first name that `with_node` refuses.
 #[tactic(auto, unfolding(crate::specs::Grammar::extract_of, crate::specs::Grammar::with_nodes))]
 pub fn extract_of<A: Allocator>(nodes: &Names<A>, names: &[&str]) -> Result<Step<A>, FaultKind>
     ensures { Meets plain result (extract_of nodes.now (map (λ word. word.now) names.now)) }
 {
-    if names.is_empty() || names.len() > 32 {
+    if names.is_empty() || names.len() > usize::from(MOST_NAMES) {
         return Err(FaultKind::WrongCount);
     }
     let mut chosen = NameSet::empty();

@@ -2,10 +2,11 @@
 use Rattle.std.specs.Prelude.{ℕ, ◌+◌, ◌-◌, nat_le, nat_lt, not, ◌==◌, ◌&&◌, ◌||◌, Bool, true, false, List, [], ◌∷◌, ◌++◌, length, take, drop, find}
 use Rattle.std.specs.Prelude.{codes, Option, None, Some, is_some, slice_get, unwrap_or, option_map, if◌then◌else◌}
 use Rattle.std.specs.Str.{bytes_eq}
+use Rattle.payload_core.specs.Words.{longest_word}
 use Rattle.bench_core.specs.NameList.{Texts}
-use Rattle.bench_core.specs.NameText.{is_name, is_name_byte}
+use Rattle.bench_core.specs.NameText.{longest_name, is_name, is_name_byte}
 use Rattle.grammar_core.specs.Words.{lines_of}
-use Rattle.grammar_core.specs.Grammar.{keyword_of}
+use Rattle.grammar_core.specs.Grammar.{longest_line, keyword_of}
 use Rattle.grammar_core.specs.declared.fault.FaultKind.{FaultKind}
 use Rattle.grammar_core.specs.declared.fault.FaultKind.TheVariants.{NotText, TooLong, NoNodes, Twice, UnknownWord, WrongCount, NotAllowed, BadNumber}
 use Rattle.grammar_core.specs.declared.fault.FaultKind.TheVariants.{BadName, OutOfMemory}
@@ -45,8 +46,8 @@ not_text number line =
 -- TooLong: the line; or its first topic, key or metadata that is too long
 unfoldable pub too_long : List ℕ → Texts → Option Hint
 too_long line words =
-    if nat_lt 4096 (length line) then Some (Plain (codes "a line has at most 4096 bytes"))
-    else about [] (unwrap_or (find (λ word. nat_lt 200 (length word)) (drop 3 words)) []) (codes " has more than 200 bytes, too many for a word")
+    if nat_lt longest_line (length line) then Some (Plain (codes "a line has at most 4096 bytes"))
+    else about [] (unwrap_or (find (λ word. nat_lt longest_word (length word)) (drop 3 words)) []) (codes " has more than 200 bytes, too many for a word")
 
 -- NoNodes: the line's first word
 unfoldable pub no_nodes : Texts → Option Hint
@@ -110,7 +111,7 @@ letter_from word place (byte ∷ bytes) = if is_name_byte byte then letter_from 
 unfoldable pub no_name_hint : List ℕ → Option Hint
 no_name_hint word =
     if is_reserved word then about [] word (codes " is a word of the language, and no name")
-    else (if nat_lt 16 (length word) then about [] word (codes " is too long; a name has 1 to 16 bytes of a-z, 0-9 and _")
+    else (if nat_lt longest_name (length word) then about [] word (codes " is too long; a name has 1 to 16 bytes of a-z, 0-9 and _")
     else letter_from word 1 word)
 
 abbrev pub is_given_name : List ℕ → Bool

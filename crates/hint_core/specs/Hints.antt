@@ -17,9 +17,13 @@ plain_hint (hints.About before word after) = About before.now word.now after.now
 plain_hint (hints.Byte place byte after) = Byte place byte after.now
 plain_hint (hints.Letter word place) = Letter word.now place
 
+-- the most bytes that are shown of a word
+abbrev pub longest_shown : ℕ
+longest_shown = 32
+
 -- a word as it is shown: in quotes, and only the beginning of a long one
 abbrev pub shown : List ℕ → List ℕ
-shown word = if nat_le (length word) 32 then codes "`" ++ word ++ codes "`" else codes "`" ++ take 32 word ++ codes "..`"
+shown word = if nat_le (length word) longest_shown then codes "`" ++ word ++ codes "`" else codes "`" ++ take longest_shown word ++ codes "..`"
 
 abbrev pub byte_body : ℕ → ℕ → List ℕ → List ℕ
 byte_body place byte after = (codes "byte " ++ decimal place ++ codes " of the line is ") ++ (decimal byte ++ after)

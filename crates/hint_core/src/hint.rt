@@ -1,14 +1,14 @@
 //! `Hint`: what to say about a fault, and its text. In the functions that append, `line` is the hint, and not the line
 //! with the fault.
 ghost use Rattle.std.specs.Prelude.{◌≡◌, ◌++◌, ◌<◌, OnOk, IfOk, length, take, decimal, option_map};
-ghost use Rattle.hint_core.specs.Hints.{shown, byte_body, letter_tail, body, line_of, plain_hint};
+ghost use Rattle.hint_core.specs.Hints.{longest_shown, shown, byte_body, letter_tail, body, line_of, plain_hint};
 ghost use Rattle.hint_core.specs.Choices.{about};
 
 use crate::Oom;
 use std::alloc::Allocator;
 
 /// The most bytes that are shown of a word.
-const SHOWN: usize = 32;
+const LONGEST_SHOWN: usize = 32;
 
 /// What to say about a fault.
 #[derive(Clone, Copy)]
@@ -58,20 +58,20 @@ fn put_text<A: Allocator>(line: &mut Vec<u8, A>, text: &str) -> Result<(), Oom>
     line.extend_from_slice(text.as_bytes())
 }
 
-/// The first 32 bytes of a word, which must have more.
+/// The first `LONGEST_SHOWN` bytes of a word, which must have more.
 fn beginning(word: &str) -> &[u8]
-    requires { 32 < length word.now }
-    ensures { result.now ≡ take 32 word.now }
+    requires { longest_shown < length word.now }
+    ensures { result.now ≡ take longest_shown word.now }
 {
-    &word.as_bytes()[..SHOWN]
+    &word.as_bytes()[..LONGEST_SHOWN]
 }
 
-/// Appends a word in backquotes. Of a word with more than 32 bytes it appends the first 32 and two dots.
+/// Appends a word in backquotes. Of a word with more than `LONGEST_SHOWN` bytes it appends that many and two dots.
 fn put_word<A: Allocator>(line: &mut Vec<u8, A>, word: &str) -> Result<(), Oom>
     ensures { OnOk result (line.new.items ≡ line.old.items ++ shown word.now) }
 {
     put_text(line, "`")?;
-    if word.len() <= SHOWN {
+    if word.len() <= LONGEST_SHOWN {
         put_text(line, word)?;
         return put_text(line, "`");
     }

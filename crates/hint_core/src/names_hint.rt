@@ -9,7 +9,7 @@ ghost use Rattle.hint_core.specs.Choices.{names_actors, again, twice, letter_fro
 use crate::hint::{Hint, about};
 use crate::line_words::{behind, first_again, is_begun, is_node, word_at};
 use crate::words_hint::is_reserved;
-use bench_core::is_name;
+use bench_core::{LONGEST_NAME, is_name};
 
 /// Whether a line with this first word names nodes or consoles.
 fn names_actors(first: &str) -> bool
@@ -75,7 +75,7 @@ fn no_name_hint<'l>(word: &'l str) -> Option<Hint<'l>>
     if is_reserved(word) {
         return about("", word, " is a word of the language, and no name");
     }
-    if word.len() > 16 {
+    if word.len() > LONGEST_NAME {
         return about(
             "",
             word,

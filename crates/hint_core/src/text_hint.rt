@@ -1,5 +1,6 @@
 //! The hints for lines that aren't text, or are too long.
 ghost use Rattle.std.specs.Prelude.{◌≡◌, option_map, map, find, drop, [], nat_lt, length, unwrap_or};
+ghost use Rattle.payload_core.specs.Words.{longest_word};
 ghost use Rattle.hint_core.specs.Hints.{plain_hint};
 ghost use Rattle.hint_core.specs.Choices.{is_text_byte, byte_text, byte_from, not_text, too_long};
 
@@ -7,6 +8,7 @@ use crate::first_bytes::is_marked;
 use crate::hint::{Hint, about};
 use crate::line_words::behind;
 use grammar_core::LONGEST_LINE;
+use payload_core::LONGEST_WORD;
 
 /// For a byte that no text can have: what sort it is, and for most sorts what to write instead.
 #[tactic(auto, unfolding(crate::specs::Choices::byte_text))]
@@ -56,11 +58,11 @@ pub(crate) fn not_text(number: u64, line: &[u8]) -> Option<Hint<'static>>
 
 /// The first of the words that has more than 200 bytes; empty if none has.
 fn long_word<'l>(words: &[&'l str]) -> &'l str
-    ensures { result.now ≡ unwrap_or (find (λ word. nat_lt 200 (length word)) (map (λ word. word.now) words.now)) [] }
+    ensures { result.now ≡ unwrap_or (find (λ word. nat_lt longest_word (length word)) (map (λ word. word.now) words.now)) [] }
 {
     // form: the proof goes along the loop
     for word in words {
-        if word.len() > 200 {
+        if word.len() > LONGEST_WORD {
             return word;
         }
     }

@@ -6,7 +6,7 @@ use Rattle.serde_json.specs.Find.{as_str}
 use Rattle.serde_json.specs.Read.{max_depth}
 use Rattle.serde_json.specs.Written.{has_float}
 use Rattle.bench_core.specs.NameList.{Texts, number_in}
-use Rattle.spelling_core.specs.declared.spelling.TheConstants.{LONGEST}
+use Rattle.payload_core.specs.Words.{longest_word}
 use Rattle.spelling_core.specs.WordText.{spelled, word_of}
 use Rattle.spelling_core.proofs.Spellings.{one_value_law as spelled_law}
 use Rattle.import_core.specs.Tables.{Extends, IsTextOf, ToldBy, IsSpellingOf, IsWordOf, IsNumberOf, OneValueLaw, KeptLaw}
@@ -57,16 +57,16 @@ module _ (longs : Texts) (d e : Data) (word : List ℕ) (is_d : IsWordOf longs d
       go (inr short) any =
           alike (is_d.spells.is
           ∙ spelled_law.words is_d.number is_e.number is_d.spells.is_string is_e.spells.is_string is_d.spells.text is_e.spells.text
-          (subst (λ s. length s ≤ LONGEST) is_d.spells.is short) same_word
+          (subst (λ s. length s ≤ longest_word) is_d.spells.is short) same_word
           ∙ sym is_e.spells.is)
       go (inl long) (inr short) =
           alike (is_d.spells.is
           ∙ sym (spelled_law.words is_e.number is_d.number is_e.spells.is_string is_d.spells.is_string is_e.spells.text is_d.spells.text
-          (subst (λ s. length s ≤ LONGEST) is_e.spells.is short) (sym same_word))
+          (subst (λ s. length s ≤ longest_word) is_e.spells.is short) (sym same_word))
           ∙ sym is_e.spells.is)
       go (inl long) (inl too) =
           let same = spelled_law.numbers is_d.number is_e.number is_d.spells.is_string is_e.spells.is_string is_d.spells.text is_e.spells.text
-          is_d.small is_e.small (subst (λ s. LONGEST < length s) is_d.spells.is long) (subst (λ s. LONGEST < length s) is_e.spells.is too) same_word in
+          is_d.small is_e.small (subst (λ s. longest_word < length s) is_d.spells.is long) (subst (λ s. longest_word < length s) is_e.spells.is too) same_word in
           one_pid longs d e is_e.number low_d low_e (subst (λ n. IsNumberOf longs d n) same (is_d.numbered long)) (is_e.numbered too)
 
 pub one_value_law : OneValueLaw

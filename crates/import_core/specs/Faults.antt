@@ -1,5 +1,6 @@
 -- Why lines give no script.
 use Rattle.std.specs.Prelude.{◌≡◌, ℕ, ◌+◌, ◌<◌, ◌≤◌, Bool, List, [], length, take, slice_index_or, Some}
+use Rattle.dots_core.specs.Names.{most_names}
 use Rattle.event_order.specs.declared.order_fault.OrderFault as order
 use Rattle.event_order.specs.declared.order_fault.OrderFault.TheVariants as order_faults
 use Rattle.event_order.specs.Ordering.{IsFaultOf}
@@ -38,7 +39,7 @@ abbrev pub IsWrong : Texts → List ℕ → FaultKind → Type 0
 IsWrong nodes line TooLong = HasNoValue line line_faults.TooLong
 IsWrong nodes line NotJson = HasNoValue line line_faults.NotJson
 IsWrong nodes line BadEvent = SaysNoEvent line
-IsWrong nodes line TooManyNodes = (event : Line) × Says line (Some event) × (32 < length (with_texts nodes (names_in event)))
+IsWrong nodes line TooManyNodes = (event : Line) × Says line (Some event) × (most_names < length (with_texts nodes (names_in event)))
 IsWrong nodes line NoNodes = ⊥
 IsWrong nodes line Twice = ⊥
 IsWrong nodes line NeverSent = ⊥
@@ -55,7 +56,7 @@ pub record IsFirstWrong (nodes : Texts) (lines : List (List ℕ)) (place : ℕ) 
   pub notes : List Note
   pub there : place < length lines
   pub before : AreNoted tables (take place lines) notes
-  pub few : length nodes ≤ 32 → length (nodes_before nodes lines place) ≤ 32
+  pub few : length nodes ≤ most_names → length (nodes_before nodes lines place) ≤ most_names
   pub wrong : IsWrong (nodes_before nodes lines place) (slice_index_or lines place []) kind
 
 -- a line has a fault, and those before it have none; or memory was refused

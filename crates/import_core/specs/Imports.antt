@@ -1,5 +1,6 @@
 -- What an input gives: the notes of its events, and an order of them.
 use Rattle.std.specs.Prelude.{◌≡◌, ℕ, ◌^◌, ◌<◌, ◌≤◌, length, List, [], ◌∷◌, ◌++◌, slice_index_or, Bool, Option, Some, None}
+use Rattle.dots_core.specs.Names.{most_names}
 use Rattle.event_order.specs.Ordering.{IsOrdered, no_event}
 use Rattle.log_core.specs.Events.{Line}
 use Rattle.log_core.specs.Lines.{Numbered, Say, Says, lines_of}
@@ -47,4 +48,4 @@ pub record IsImportOf (lenient : Bool) (bytes : List ℕ) (t : AllTables) (notes
   pub some : 0 < length notes
   pub lines : length (lines_of bytes) < 2 ^ 64
   pub nodes : t.nodes ≡ with_texts [] (names_on (lines_of bytes))
-  pub few : length t.nodes ≤ 32
+  pub few : length t.nodes ≤ most_names

@@ -1,6 +1,7 @@
 -- The events of a log, as they are ordered and played.
 use Rattle.std.specs.Prelude.{◌≡◌, ℕ, ◌<◌, true, List, map, Option, Some, None, option_map}
 use Rattle.std.specs.List.{AllZip}
+use Rattle.dots_core.specs.Names.{most_names}
 use Rattle.diff_core.specs.Rows.{Row}
 use Rattle.event_order.specs.declared.logged.Logged.{Logged}
 use Rattle.node_core.specs.Operations.{Operation, delivers, plain}
@@ -37,7 +38,7 @@ IsMaybeStepOf t event (Some step) = IsStepOf t event step
 pub record IsNoteOf (t : AllTables) (event : Numbered) (note : Note) : Type 0 where
   pub number : note.number ≡ event.number
   pub node : IsNodeOf t event.line.node note.logged.node
-  pub few : note.logged.node < 32
+  pub few : note.logged.node < most_names
   pub step : IsMaybeStepOf t event.line.event note.step
   pub waits : note.logged.waits ≡ awaited note.step
   pub sends : IsSentOf t note.logged.node event.line.event note.logged.sends

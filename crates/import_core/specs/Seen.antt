@@ -6,6 +6,7 @@ use Rattle.std.specs.Str.{bytes_eq}
 use Rattle.serde_json.specs.Data.{Items, no_items, item}
 use Rattle.serde_json.specs.Find.{as_str}
 use Rattle.serde_json.specs.Read.{read}
+use Rattle.dots_core.specs.Names.{most_names}
 use Rattle.bench_core.specs.NameList.{Texts}
 use Rattle.log_core.specs.Events as log
 use Rattle.log_core.specs.Lines.{is_blank}
@@ -25,7 +26,7 @@ abbrev pub SeesNodes : AllTables → AllTables → Texts → Type 0
 SeesNodes earlier later names = later.nodes ≡ with_texts earlier.nodes names
 
 abbrev pub HasTooMany : AllTables → Texts → Type 0
-HasTooMany earlier names = 32 < length (with_texts earlier.nodes names)
+HasTooMany earlier names = most_names < length (with_texts earlier.nodes names)
 
 abbrev pub text_if : Option (List ℕ) → Texts
 text_if None = []

@@ -6,7 +6,7 @@ use Rattle.serde_json.specs.Read.{read, max_depth}
 use Rattle.serde_json.specs.Written.{has_float, compact_text}
 use Rattle.bench_core.specs.NameList.{Texts, number_in}
 use Rattle.import_core.specs.declared.tables.Tables.{Tables}
-use Rattle.spelling_core.specs.declared.spelling.TheConstants.{LONGEST}
+use Rattle.payload_core.specs.Words.{longest_word}
 use Rattle.spelling_core.specs.WordText.{spelled, word_of, AreBytes}
 
 -- the later list of texts has those of the earlier one, with the same numbers
@@ -44,7 +44,7 @@ pub record IsWordOf (longs : Texts) (d : Data) (word : List ℕ) : Type 0 where
   pub small : number < 2 ^ 64
   pub spells : IsSpellingOf d spelling
   pub is : word ≡ word_of number spelling
-  pub numbered : LONGEST < length spelling → IsNumberOf longs d number
+  pub numbered : longest_word < length spelling → IsNumberOf longs d number
 
 -- all tables: the texts of nodes, of processes, of messages with their senders, and of the values whose words are cut
 pub record AllTables : Type 0 where

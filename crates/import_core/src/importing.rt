@@ -1,5 +1,6 @@
 //! From the bytes of logs to the notes of their events, and an order of the events.
 ghost use Rattle.std.specs.Prelude.{◌≡◌, ◌<◌, length, map, IfOk, IfErr, OnOk};
+ghost use Rattle.dots_core.specs.Names.{most_names};
 ghost use Rattle.event_order.specs.Ordering.{HasNodes, HasMessages, IsOrdered, IsFaultOf};
 ghost use Rattle.log_core.specs.Lines.{lines_of};
 ghost use Rattle.import_core.specs.Tables.{all_of};
@@ -11,12 +12,9 @@ use crate::fault::{FaultKind, ImportFault};
 use crate::lenient::stay;
 use crate::notes::{Noted, noted_all};
 use crate::tables::Tables;
-use dots_core::Oom;
+use dots_core::{MOST_NAMES, Oom};
 use event_order::{Logged, OrderFault, ordered};
 use std::alloc::{Allocator, Global};
-
-/// The most nodes that there may be.
-const NODES: u16 = 32;
 
 /// What an input gives: the tables, which say what each number stands for; the notes of the events that stay; and an
 /// order of these events, as places in `notes`.
@@ -95,7 +93,7 @@ fn order_of<A: Allocator + Copy>(
     notes: &[Noted<A>],
     messages: usize,
 ) -> Result<Vec<usize, A>, ImportFault>
-    requires nodes { HasNodes 32 (logged_of (map note_of notes.now)) }
+    requires nodes { HasNodes most_names (logged_of (map note_of notes.now)) }
     requires messages { HasMessages messages (logged_of (map note_of notes.now)) }
     ensures order { IfOk result (λ order. IsOrdered (logged_of (map note_of notes.now)) order.items) }
     ensures some { OnOk result (0 < length notes.now) }
@@ -108,7 +106,7 @@ fn order_of<A: Allocator + Copy>(
         });
     }
     let events = logged(alloc, notes)?;
-    match ordered(alloc, &events, NODES, messages) {
+    match ordered(alloc, &events, MOST_NAMES, messages) {
         Ok(order) => Ok(order),
         Err(fault) => Err(fault_of(notes, fault)),
     }

@@ -1,5 +1,6 @@
 //! Makes the notes of the events of logs.
 ghost use Rattle.std.specs.Prelude.{◌≡◌, ◌^◌, ◌<◌, ◌≤◌, ◌++◌, ◌∷◌, [], Err, length, map, IfOk, IfErr, OnOk, option_map};
+ghost use Rattle.dots_core.specs.Names.{most_names};
 ghost use Rattle.node_core.specs.Operations.{plain};
 ghost use Rattle.log_core.specs.Views.{line as shown_line};
 ghost use Rattle.import_core.specs.Tables.{Keeps, all_of};
@@ -15,7 +16,7 @@ use crate::rows::listed_for;
 use crate::tables::Tables;
 use bench_core::Step;
 use diff_core::OnlineRow;
-use dots_core::Oom;
+use dots_core::{MOST_NAMES, Oom};
 use event_order::Logged;
 use log_core::{LogLine, line_at, value_of_line};
 use std::alloc::{Allocator, Global};
@@ -79,14 +80,14 @@ fn note_of_event<A: Allocator + Copy>(
     line: &LogLine<'_>,
 ) -> Result<Noted<A>, NoteFault>
     ensures note { IfOk result (λ n. IsNoteOf (all_of tables.new) (record { number = number; line = shown_line line.now }) (note_of n)) }
-    ensures few { OnOk result (length (all_of tables.new).nodes ≤ 32) }
+    ensures few { OnOk result (length (all_of tables.new).nodes ≤ most_names) }
     ensures seen { OnOk result (SeesNodes (all_of tables.old) (all_of tables.new) (names_in (shown_line line.now))) }
     ensures kept { Keeps (all_of tables.old) (all_of tables.new) }
     ensures many { result ≡ Err NoteFault.TooManyNodes → HasTooMany (all_of tables.old) (names_in (shown_line line.now)) }
 {
     let note = note_for(heap, alloc, tables, number, line)?;
     // form: `Tables::node` refuses a node past the 32nd; the test spares a requirement
-    if tables.nodes.len() > 32 {
+    if tables.nodes.len() > usize::from(MOST_NAMES) {
         // form: drop before exit
         drop(note);
         return Err(NoteFault::TooManyNodes);
@@ -104,7 +105,7 @@ fn note_of_line<A: Allocator + Copy>(
     line: &[u8],
 ) -> Result<Option<Noted<A>>, FaultKind>
     ensures note { IfOk result (λ n. IsNoted (all_of tables.new) number line.now (option_map note_of n)) }
-    ensures few { OnOk result (length (all_of tables.old).nodes ≤ 32 → length (all_of tables.new).nodes ≤ 32) }
+    ensures few { OnOk result (length (all_of tables.old).nodes ≤ most_names → length (all_of tables.new).nodes ≤ most_names) }
     ensures seen { OnOk result (SeesNodes (all_of tables.old) (all_of tables.new) (names_if (said line.now))) }
     ensures kept { Keeps (all_of tables.old) (all_of tables.new) }
     ensures wrong { IfErr result (IsWrong (all_of tables.old).nodes line.now) }
@@ -137,7 +138,7 @@ fn add_line<A: Allocator + Copy>(
     line: &[u8],
 ) -> Result<(), FaultKind>
     ensures notes { OnOk result (AddsNote (all_of tables.new) number line.now (map note_of notes.old.items) (map note_of notes.new.items)) }
-    ensures few { OnOk result (length (all_of tables.old).nodes ≤ 32 → length (all_of tables.new).nodes ≤ 32) }
+    ensures few { OnOk result (length (all_of tables.old).nodes ≤ most_names → length (all_of tables.new).nodes ≤ most_names) }
     ensures seen { OnOk result (SeesNodes (all_of tables.old) (all_of tables.new) (names_if (said line.now))) }
     ensures kept { Keeps (all_of tables.old) (all_of tables.new) }
     ensures wrong { IfErr result (IsWrong (all_of tables.old).nodes line.now) }
@@ -159,7 +160,7 @@ pub(crate) fn noted_all<A: Allocator + Copy>(
 ) -> Result<Vec<Noted<A>, A>, ImportFault>
     ensures notes { IfOk result (λ notes. AreNoted (all_of tables.new) (map (λ line. line.now) lines.now) (map note_of notes.items)) }
     ensures seen { OnOk result (SeesNodes (all_of tables.old) (all_of tables.new) (names_on (map (λ line. line.now) lines.now))) }
-    ensures few { OnOk result (length (all_of tables.old).nodes ≤ 32 → length (all_of tables.new).nodes ≤ 32) }
+    ensures few { OnOk result (length (all_of tables.old).nodes ≤ most_names → length (all_of tables.new).nodes ≤ most_names) }
     ensures lines { length lines.now < 2 ^ 64 }
     ensures fault { IfErr result (IsLineFault (all_of tables.old).nodes (map (λ line. line.now) lines.now)) }
 {

@@ -1,6 +1,7 @@
 //! `Tables`: which number stands for which text.
 ghost use Rattle.std.specs.Prelude.{◌≡◌, ◌<◌, ◌^◌, ◌++◌, Some, Err, IfOk, OnOk, length, string_bytes, decimal, codes};
 ghost use Rattle.serde_json.specs.View.{view};
+ghost use Rattle.dots_core.specs.Names.{most_names};
 ghost use Rattle.import_core.specs.Tables.{IsTextOf, IsWordOf, IsNumberOf, IsNodeOf, IsMessageOf, Extends, Keeps, all_of, no_tables, message_text};
 ghost use Rattle.import_core.specs.Seen.{with_text};
 
@@ -8,10 +9,10 @@ use crate::note_fault::NoteFault;
 use crate::numbering::numbered;
 use crate::texts::{spelling_of, text_of};
 use bench_core::TextSet;
-use dots_core::Oom;
-use payload_core::Word;
+use dots_core::{MOST_NAMES, Oom};
+use payload_core::{LONGEST_WORD, Word};
 use serde_json::Value;
-use spelling_core::{LONGEST, word_of};
+use spelling_core::word_of;
 use std::alloc::{Allocator, Global};
 
 /// The texts of nodes, of processes, of messages with their senders, and of the values whose words are cut. Each text
@@ -48,7 +49,7 @@ fn word_in<A: Allocator + Copy>(
     ensures kept { Extends longs.old longs.new }
 {
     let spelling = spelling_of(heap, value)?;
-    let number = if spelling.len() > LONGEST {
+    let number = if spelling.len() > LONGEST_WORD {
         number_in(heap, longs, value)?
     } else {
         0
@@ -99,13 +100,13 @@ impl<A: Allocator + Copy> Tables<A> {
     /// the number is above 31; the name stays in the tables then, too.
     pub(crate) fn node(&mut self, name: &str) -> Result<u16, NoteFault>
         ensures node { IfOk result (λ node. IsNodeOf (all_of self.new) name.now node) }
-        ensures few { IfOk result (λ node. node < 32) }
+        ensures few { IfOk result (λ node. node < most_names) }
         ensures seen { OnOk result (self.new.nodes ≡ with_text self.old.nodes name.now) }
         ensures kept { Keeps (all_of self.old) (all_of self.new) }
-        ensures many { result ≡ Err NoteFault.TooManyNodes → 32 < length (with_text self.old.nodes name.now) }
+        ensures many { result ≡ Err NoteFault.TooManyNodes → most_names < length (with_text self.old.nodes name.now) }
     {
         let number = numbered(&mut self.nodes, name)?;
-        if number >= 32 {
+        if number >= usize::from(MOST_NAMES) {
             return Err(NoteFault::TooManyNodes);
         }
         Ok(number as u16)

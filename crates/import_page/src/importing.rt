@@ -1,6 +1,7 @@
 //! From the bytes of logs to a bench, and to what the logs tell besides the bench's calls.
 ghost use Rattle.std.specs.Prelude.{◌≡◌, ◌<◌, ◌≤◌, ◌++◌, ℕ, List, IfOk, IfErr, OnOk, length, map, string_bytes};
 ghost use Rattle.std.specs.List.{All};
+ghost use Rattle.dots_core.specs.Names.{most_names};
 ghost use Rattle.log_core.specs.Lines.{lines_of};
 ghost use Rattle.import_core.specs.Faults.{IsImportFault};
 ghost use Rattle.import_core.specs.Notes.{note_of};
@@ -59,7 +60,7 @@ fn played<'a, B: Allocator>(
     bytes: &[u8],
 ) -> Result<(Bench<'a, B>, String<&'a B>), Oom>
     requires some { 0 < length import.now.tables.nodes }
-    requires few { length import.now.tables.nodes ≤ 32 }
+    requires few { length import.now.tables.nodes ≤ most_names }
     requires places { All (λ place. place < length import.now.notes.items) import.now.order.items }
     ensures bench { IfOk result (λ p. p.0 ≡
         (after_events (start_of limits (all_of import.now.tables)) (in_order (map note_of import.now.notes.items) import.now.order.items)).machine) }
@@ -100,7 +101,7 @@ fn shown_of<'a, B: Allocator>(
     bytes: &[u8],
 ) -> Result<Shown<'a, B>, Oom>
     requires some { 0 < length import.now.tables.nodes }
-    requires few { length import.now.tables.nodes ≤ 32 }
+    requires few { length import.now.tables.nodes ≤ most_names }
     requires places { All (λ place. place < length import.now.notes.items) import.now.order.items }
     ensures bench { IfOk result (λ s. s.bench ≡
         (after_events (start_of limits (all_of import.now.tables)) (in_order (map note_of import.now.notes.items) import.now.order.items)).machine) }

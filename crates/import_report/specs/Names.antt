@@ -1,5 +1,6 @@
 -- The names of the nodes in a script.
 use Rattle.std.specs.Prelude.{◌≡◌, ℕ, ◌≤◌, length, take, Result, Ok, Err}
+use Rattle.dots_core.specs.Names.{most_names}
 use Rattle.bench_core.specs.NameList.{Texts, names_of}
 use Rattle.grammar_core.specs.declared.fault.FaultKind.{FaultKind}
 use Rattle.grammar_core.specs.Words.{words_of}
@@ -11,7 +12,7 @@ use Rattle.import_report.specs.declared.names.TheConstants.{NUMBERED}
 pub record AreNames (names : Texts) : Type 0 where
   pub nodes : AreNodes names
   pub valid : names_of names ≡ Ok names
-  pub few : length names ≤ 32
+  pub few : length names ≤ most_names
 
 -- `n0`, `n1` ..
 abbrev pub numbered_names : ℕ → Texts

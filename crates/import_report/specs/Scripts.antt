@@ -4,7 +4,7 @@ use Rattle.std.specs.List.{flat_map}
 use Rattle.bench_core.specs.Limits.{Limits}
 use Rattle.bench_core.specs.Machine.{Machine, opening_machine}
 use Rattle.bench_core.specs.NameList.{Texts}
-use Rattle.grammar_core.specs.Grammar.{script_of}
+use Rattle.grammar_core.specs.Grammar.{longest_script, script_of}
 use Rattle.grammar_core.specs.Scripts.{Command, Line, Script}
 use Rattle.run_core.specs.Report.{played}
 use Rattle.import_core.specs.declared.fault.FaultKind.TheVariants.{TooLong}
@@ -49,7 +49,7 @@ pub record IsReadAs (text : List ℕ) (names : Texts) (asked : List Command) : T
 -- the script of these events in their order
 pub record IsScriptOf (told : Bool) (limits : Limits) (names : Texts) (t : AllTables) (notes : List Note) (text : List ℕ) : Type 0 where
   pub is : text ≡ script_text told limits names t notes
-  pub short : length text ≤ 1048576
+  pub short : length text ≤ longest_script
   pub read : IsReadAs text names (events_commands (opening limits names (length t.messages)) notes)
 
 -- the script of an input, the bench that it leaves when it is played, and the lines that were left out
@@ -71,7 +71,7 @@ pub record IsBenchOf (lenient : Bool) (limits : Limits) (bytes : List ℕ) (benc
 
 -- the script of these events is too long to be read
 abbrev pub IsTooLong : Bool → Limits → Texts → AllTables → List Note → Type 0
-IsTooLong told limits names t notes = 1048576 < length (script_text told limits names t notes)
+IsTooLong told limits names t notes = longest_script < length (script_text told limits names t notes)
 
 -- why there is no script: the input can't be imported, or the script is too long
 pub record IsLongImport (lenient told : Bool) (limits : Limits) (bytes : List ℕ) : Type 0 where

@@ -1,5 +1,6 @@
 //! Comments that tell the nodes' own names, and the value behind each `~NUMBER` at the end of a cut word.
 ghost use Rattle.std.specs.Prelude.{◌≡◌, ◌++◌, ◌<◌, ◌≤◌, ◌^◌, true, IfOk, OnOk, length, string_bytes};
+ghost use Rattle.dots_core.specs.Names.{most_names};
 ghost use Rattle.grammar_core.specs.Words.{is_text};
 ghost use Rattle.import_core.specs.Tables.{all_of};
 ghost use Rattle.import_report.specs.Comments.{comments_text, node_comment, nodes_comments, shortened, word_line, words_comments};
@@ -56,7 +57,7 @@ fn put_nodes<A: Allocator + Copy, N: Allocator>(
     names: &Names<N>,
     nodes: &TextSet<A>,
 ) -> Result<(), Oom>
-    requires { length nodes.now ≤ 32 }
+    requires { length nodes.now ≤ most_names }
     ensures { OnOk result (string_bytes text.new ≡ string_bytes text.old ++ nodes_comments names.now 0 nodes.now) }
 {
     for number in 0..nodes.len() {
@@ -106,7 +107,7 @@ pub(crate) fn put_comments<A: Allocator + Copy, N: Allocator>(
     names: &Names<N>,
     tables: &Tables<A>,
 ) -> Result<(), Oom>
-    requires { length tables.now.nodes ≤ 32 }
+    requires { length tables.now.nodes ≤ most_names }
     ensures text { OnOk result (string_bytes text.new ≡ string_bytes text.old ++ comments_text names.now (all_of tables.now)) }
     ensures few { OnOk result (length tables.now.longs < 2 ^ 64) }
 {

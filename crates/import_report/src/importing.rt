@@ -1,6 +1,7 @@
 //! From the bytes of logs to a script, to a bench, and to where the bench and the real nodes part.
 ghost use Rattle.std.specs.Prelude.{◌≡◌, ◌<◌, ◌≤◌, ◌^◌, ◌++◌, ◌==◌, ℕ, Bool, List, IfOk, IfErr, OnOk, length, map, not, string_bytes};
 ghost use Rattle.std.specs.List.{All};
+ghost use Rattle.dots_core.specs.Names.{most_names};
 ghost use Rattle.import_core.specs.Notes.{note_of};
 ghost use Rattle.import_core.specs.Tables.{all_of};
 ghost use Rattle.import_core.specs.Faults.{IsImportFault};
@@ -26,7 +27,7 @@ fn script_of_import<'a, B: Allocator>(
     told: bool,
 ) -> Result<Scripted<'a, B>, Oom>
     requires some { 0 < length import.now.tables.nodes }
-    requires few { length import.now.tables.nodes ≤ 32 }
+    requires few { length import.now.tables.nodes ≤ most_names }
     requires places { All (λ place. place < length import.now.notes.items) import.now.order.items }
     ensures text { IfOk result (λ s. string_bytes s.text ≡
         script_text told limits (shown_names import.now.tables.nodes) (all_of import.now.tables)
@@ -125,7 +126,7 @@ fn check_of_import<'a, B: Allocator>(
     limits: Limits,
 ) -> Result<Checked<'a, B>, Oom>
     requires some { 0 < length import.now.tables.nodes }
-    requires few { length import.now.tables.nodes ≤ 32 }
+    requires few { length import.now.tables.nodes ≤ most_names }
     requires places { All (λ place. place < length import.now.notes.items) import.now.order.items }
     ensures { IfOk result (λ c. (agreements : List Bool) × (told : List ℕ)
         × AreChecked (shown_names import.now.tables.nodes) (opening limits (shown_names import.now.tables.nodes) (length import.now.tables.messages))

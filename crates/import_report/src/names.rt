@@ -1,5 +1,6 @@
 //! The names of the nodes in the script.
 ghost use Rattle.std.specs.Prelude.{◌≡◌, ◌≢◌, ◌++◌, ◌∷◌, ◌<◌, ◌≤◌, [], IfOk, OnOk, length, map, take};
+ghost use Rattle.dots_core.specs.Names.{most_names};
 ghost use Rattle.grammar_core.specs.Grammar.{unreserved};
 ghost use Rattle.report_core.specs.Rows.{name_at};
 ghost use Rattle.import_report.specs.Names.{AreNames, numbered_names, shown_names};
@@ -56,7 +57,7 @@ fn first_words<'s, 't>(words: &'s [&'t str], count: usize) -> &'s [&'t str]
 /// The names `n0`, `n1` and so on, `count` of them; `count` is 1 to 32.
 fn numbered_names<A: Allocator + Copy>(alloc: A, count: usize) -> Result<Names<A>, Oom>
     requires some { 0 < count }
-    requires few { count ≤ 32 }
+    requires few { count ≤ most_names }
     ensures names { IfOk result (λ names. names ≡ numbered_names count) }
     ensures nodes { IfOk result (λ names. AreNames names) }
     ensures count { IfOk result (λ names. length names ≡ count) }
@@ -80,7 +81,7 @@ fn or_numbered<A: Allocator + Copy>(
     count: usize,
 ) -> Result<Names<A>, Oom>
     requires some { 0 < count }
-    requires few { count ≤ 32 }
+    requires few { count ≤ most_names }
     ensures names { IfOk result (λ names. (fault ≢ NamesFault.OutOfMemory) × (names ≡ numbered_names count)) }
     ensures nodes { IfOk result (λ names. AreNames names) }
     ensures count { IfOk result (λ names. length names ≡ count) }
@@ -95,7 +96,7 @@ fn or_numbered<A: Allocator + Copy>(
 /// and so on. There must be 1 to 32 nodes.
 pub fn shown_names<A: Allocator + Copy>(alloc: A, nodes: &TextSet<A>) -> Result<Names<A>, Oom>
     requires some { 0 < length nodes.now }
-    requires few { length nodes.now ≤ 32 }
+    requires few { length nodes.now ≤ most_names }
     ensures names { IfOk result (λ names. names ≡ shown_names nodes.now) }
     ensures nodes { IfOk result (λ names. AreNames names) }
     ensures count { IfOk result (λ names. length names ≡ length nodes.now) }

@@ -1,6 +1,7 @@
 //! Makes the script of an import, and the bench on which its lines were played.
 ghost use Rattle.std.specs.Prelude.{◌≡◌, ◌++◌, ◌<◌, ◌≤◌, ◌^◌, IfOk, OnOk, length, map, replicate, string_bytes};
 ghost use Rattle.std.specs.List.{All};
+ghost use Rattle.dots_core.specs.Names.{most_names};
 ghost use Rattle.import_core.specs.Imports.{note_at};
 ghost use Rattle.import_core.specs.Notes.{note_of};
 ghost use Rattle.import_core.specs.Tables.{all_of};
@@ -81,7 +82,7 @@ fn put_head<'a, B: Allocator>(
     names: &Names<&'a B>,
     tables: &Tables<&'a B>,
 ) -> Result<(), Oom>
-    requires { length tables.now.nodes ≤ 32 }
+    requires { length tables.now.nodes ≤ most_names }
     ensures text { OnOk result (string_bytes text.new ≡ string_bytes text.old ++ ended (nodes_line names.now) ++ comments_text names.now (all_of tables.now)) }
     ensures few { OnOk result (length tables.now.longs < 2 ^ 64) }
 {
@@ -101,7 +102,7 @@ pub(crate) fn script_of<'a, B: Allocator>(
     notes: &[Noted<&'a B>],
     order: &[usize],
 ) -> Result<Scripted<'a, B>, Oom>
-    requires few { length tables.now.nodes ≤ 32 }
+    requires few { length tables.now.nodes ≤ most_names }
     requires places { All (λ place. place < length notes.now) order.now }
     ensures text { IfOk result (λ s. string_bytes s.text ≡
         script_text told limits names.entry (all_of tables.now) (in_order (map note_of notes.now) order.now)) }

@@ -2,6 +2,7 @@
 ghost use Rattle.std.specs.Prelude.{◌≡◌, ◌++◌, ◌∷◌, [], ◌<◌, ◌≤◌, IsOk, IfErr, IfOk, OnOk, OnErr, map, option_map, option_copied};
 ghost use Rattle.std.specs.Prelude.{slice_get, length, Some, None};
 ghost use Rattle.std.specs.List.{Contains};
+ghost use Rattle.dots_core.specs.Names.{most_names};
 ghost use Rattle.node_core.specs.Operations.{plain};
 ghost use Rattle.node_core.specs.Inverses.{plain_inverse};
 ghost use Rattle.journal_core.specs.Journals.{find_number, first_consequence, last_of, AreInCausalOrder, IsOfNode};
@@ -52,7 +53,7 @@ impl<'a, B: Allocator> Model for Journal<'a, B> {
 impl<'a, B: Allocator> Journal<'a, B> {
     /// A journal for `nodes` nodes, without steps.
     pub fn new(alloc: &'a B, nodes: u16) -> Result<Self, Oom>
-        requires { nodes ≤ 32 }
+        requires { nodes ≤ most_names }
         ensures { IfOk result (λ journal. journal ≡ record { nodes = nodes; steps = []; room = [] }) }
     {
         let mut causes = Vec::with_capacity(alloc, nodes as usize)?;

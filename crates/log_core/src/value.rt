@@ -2,7 +2,7 @@
 ghost use Rattle.std.specs.Prelude.{◌≡◌, ◌≤◌, false, length, Some, IfOk, IfErr, option_map};
 ghost use Rattle.std.specs.List.{list_all};
 ghost use Rattle.serde_json.specs.View.{view};
-ghost use Rattle.log_core.specs.Lines.{is_space, is_blank, IsValueOf, HasNoValue};
+ghost use Rattle.log_core.specs.Lines.{longest_line, is_space, is_blank, IsValueOf, HasNoValue};
 
 use crate::line_fault::LineFault;
 use serde_json::Value;
@@ -26,7 +26,7 @@ fn is_blank(line: &[u8]) -> bool
 
 /// The JSON value of a line that isn't blank.
 fn value_of(heap: Global, line: &[u8]) -> Result<Value, LineFault>
-    requires short { length line.now ≤ 1048576 }
+    requires short { length line.now ≤ longest_line }
     requires told { is_blank line.now ≡ false }
     ensures ok { IfOk result (λ v. IsValueOf line.now (Some (view v))) }
     ensures err { IfErr result (HasNoValue line.now) }

@@ -4,6 +4,7 @@ ghost use Rattle.std.specs.Prelude.{◌≡◌, ◌<◌, ℕ, List, map, suc, tru
 ghost use Rattle.std.specs.FinSet.{contains};
 ghost use Rattle.std.specs.List.{AllByRecursion};
 ghost use Rattle.dots_core.specs.declared.dot.Dot.{Dot as PlainDot};
+ghost use Rattle.dots_core.specs.Names.{most_names};
 ghost use Rattle.node_core.specs.Operations.{plain};
 ghost use Rattle.journal_core.specs.Journals.{Kept as PlainKept};
 ghost use Rattle.network_rules.specs.declared.turn.Rank.{Rank as PlainRank};
@@ -271,7 +272,7 @@ pub fn cone_of<'a, B: Allocator>(
     count: u16,
     alloc: &'a B,
 ) -> Cone<'a, B>
-    requires { AllByRecursion (λ (d : PlainDot). d.name < 32) dots.items }
+    requires { AllByRecursion (λ (d : PlainDot). d.name < most_names) dots.items }
     ensures dots { result.dots ≡ dots.entry.items }
     ensures closed { IsClosed steps.now ranks.now result }
     ensures asked { AreAllAsked turns.now count asked result }

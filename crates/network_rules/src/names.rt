@@ -2,6 +2,7 @@
 ghost use Rattle.std.specs.Prelude.{◌≡◌, ◌<◌, ℕ, IsTrue, true, if◌then◌else◌};
 ghost use Rattle.std.specs.FinSet.{contains};
 ghost use Rattle.std.specs.FinSet as set;
+ghost use Rattle.dots_core.specs.Names.{most_names};
 ghost use Rattle.network_rules.specs.NameSets.{all_names};
 
 use dots_core::NameSet;
@@ -19,7 +20,7 @@ pub fn all_names() -> NameSet
 
 /// `names`, with `name` added to them if `wanted` is true.
 fn with_if(names: NameSet, name: u16, wanted: bool) -> NameSet
-    requires { name < 32 }
+    requires { name < most_names }
     ensures { result ≡ (if wanted then set.insert names name else names) }
 {
     if wanted { names.with(name) } else { names }

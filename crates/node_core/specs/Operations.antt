@@ -3,7 +3,7 @@
 use Rattle.std.specs.Prelude.{◌≡◌, ◌<◌, ℕ, zero, suc, Bool, true, false, List, [], ◌∷◌, Option, None, Some, refl}
 use Rattle.std.specs.Coded.{Coded, code_by, coded×, coded_ℕ}
 use Rattle.std.specs.FinSet as set
-use Rattle.dots_core.specs.Names.{Names}
+use Rattle.dots_core.specs.Names.{most_names, Names}
 use Rattle.payload_core.specs.Presences.{Presence, presence_code}
 use Rattle.node_core.specs.declared.step.Step.{Step}
 use Rattle.node_core.specs.declared.step.Step.TheVariants as steps
@@ -82,7 +82,7 @@ named_in (Up name) = name ∷ []
 named_in (Down name) = name ∷ []
 named_in (Permdown name) = name ∷ []
 
--- the numbers that name nodes in a step are below 32, as those in a set of names are
+-- the numbers that name nodes in a step are below `most_names`, as those in a set of names are
 abbrev pub AreNames : Operation → Type 0
 AreNames (Join presence) = Unit {0}
 AreNames (Leave pid topic key) = Unit {0}
@@ -90,12 +90,12 @@ AreNames (LeaveAll pid) = Unit {0}
 AreNames (Update presence) = Unit {0}
 AreNames Broadcast = Unit {0}
 AreNames (Extract names) = Unit {0}
-AreNames (Deliver sender number) = sender < 32
+AreNames (Deliver sender number) = sender < most_names
 AreNames Request = Unit {0}
-AreNames (Answer sender number) = sender < 32
-AreNames (Up name) = name < 32
-AreNames (Down name) = name < 32
-AreNames (Permdown name) = name < 32
+AreNames (Answer sender number) = sender < most_names
+AreNames (Up name) = name < most_names
+AreNames (Down name) = name < most_names
+AreNames (Permdown name) = name < most_names
 
 -- an operation is stored as the number of its kind, with a presence, names and two numbers, as far as the kind uses them
 abbrev Stored : Type 0

@@ -1,5 +1,6 @@
 //! `Node`: a replica with an outbox, which takes steps, and takes them back.
 ghost use Rattle.std.specs.Prelude.{◌≡◌, ◌↔◌, ◌<◌, ◌≢◌, ◌+◌, IsTrue, IsOk, IfOk, IfErr, OnOk, OnErr, Ok, Err, None, Some, option_map};
+ghost use Rattle.dots_core.specs.Names.{most_names};
 ghost use Rattle.replica_core.specs.Changes.{plain_change};
 ghost use Rattle.replica_core.specs.Limits.{AreNodeLimits};
 ghost use Rattle.node_core.specs.declared.step_fault.StepFault.TheVariants.{OutOfMemory};
@@ -125,7 +126,7 @@ impl<'a, B: Allocator> Node<'a, B> {
 
     /// A node that has seen and sent nothing. It takes no memory.
     pub fn new(alloc: &'a B, own: u16, limits: NodeLimits) -> Node<'a, B>
-        requires name { own < 32 }
+        requires name { own < most_names }
         requires limits { AreNodeLimits limits }
         ensures { result ≡ opening_node own limits }
     {
@@ -294,7 +295,7 @@ impl<'a, B: Allocator> Node<'a, B> {
     }
 
     fn up(&mut self, name: u16) -> Result<Inverse<&'a B>, StepFault>
-        requires { name < 32 }
+        requires { name < most_names }
         ensures { Takes self.old (Up name) None result self.new }
     {
         let change = self.replica.up(name)?;
@@ -304,7 +305,7 @@ impl<'a, B: Allocator> Node<'a, B> {
     }
 
     fn down(&mut self, name: u16) -> Result<Inverse<&'a B>, StepFault>
-        requires { name < 32 }
+        requires { name < most_names }
         ensures { Takes self.old (Down name) None result self.new }
     {
         let change = self.replica.down(name)?;
@@ -314,7 +315,7 @@ impl<'a, B: Allocator> Node<'a, B> {
     }
 
     fn permdown(&mut self, name: u16) -> Result<Inverse<&'a B>, StepFault>
-        requires { name < 32 }
+        requires { name < most_names }
         ensures { Takes self.old (Permdown name) None result self.new }
     {
         let change = self.replica.permdown(name)?;

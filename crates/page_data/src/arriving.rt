@@ -5,6 +5,7 @@
 //! MORE counts the clocks of its cloud there.
 ghost use Rattle.std.specs.Prelude.{◌≡◌, ◌++◌, ◌<◌, ◌≤◌, IfOk, OnOk, option_map};
 ghost use Rattle.std.specs.List.{flat_map};
+ghost use Rattle.dots_core.specs.Names.{most_names};
 ghost use Rattle.store_core.specs.Stores.{store_of};
 ghost use Rattle.replica_core.specs.Deliveries.{is_other_known};
 ghost use Rattle.replica_core.specs.Replicas.{is_known};
@@ -80,7 +81,7 @@ fn put_hops_of<A: Allocator + Copy, R: Allocator>(
     name: u16,
     alloc: A,
 ) -> Result<(), Oom>
-    requires { name < 32 }
+    requires { name < most_names }
     ensures { OnOk result (numbers.new.items ≡ numbers.old.items ++ hops_of replica.now.store message.now name) }
 {
     let clocks = clocks_of(message.seen(), name, alloc)?;
@@ -102,7 +103,7 @@ fn put_hops_if<A: Allocator + Copy, R: Allocator>(
     name: u16,
     alloc: A,
 ) -> Result<(), Oom>
-    requires { name < 32 }
+    requires { name < most_names }
     ensures { OnOk result (numbers.new.items ≡ numbers.old.items ++
         hops_if (is_other_known replica.now name) replica.now.store message.now name) }
 {
@@ -120,7 +121,7 @@ fn hops_to<A: Allocator + Copy, R: Allocator>(
     count: u16,
     alloc: A,
 ) -> Result<Vec<u64, A>, Oom>
-    requires { count ≤ 32 }
+    requires { count ≤ most_names }
     ensures { IfOk result (λ numbers. numbers.items ≡ hops_to replica.now message.now count) }
 {
     let mut numbers = Vec::new(alloc);
@@ -138,7 +139,7 @@ pub fn hops_at<'a, A: Allocator + Copy, B: Allocator>(
     count: u16,
     alloc: A,
 ) -> Result<Vec<u64, A>, Oom>
-    requires { count ≤ 32 }
+    requires { count ≤ most_names }
     ensures { IfOk result (λ numbers. numbers.items ≡
         hops_at (option_map (λ n. n.now) node.entry) (option_map (λ m. m.now) message.entry) count) }
 {
@@ -175,7 +176,7 @@ fn put_missed<A: Allocator, R: Allocator>(
     message: &Payload<R>,
     name: u16,
 ) -> Result<(), Oom>
-    requires { name < 32 }
+    requires { name < most_names }
     ensures { OnOk result (numbers.new.items ≡ numbers.old.items ++
         missed_if (is_known replica.now name) name (clock_of message.now.seen name) (more_of message.now.seen name)) }
 {
@@ -198,7 +199,7 @@ fn missed_by<A: Allocator, R: Allocator>(
     count: u16,
     alloc: A,
 ) -> Result<Vec<u64, A>, Oom>
-    requires { count ≤ 32 }
+    requires { count ≤ most_names }
     ensures { IfOk result (λ numbers. numbers.items ≡ missed_by replica.now message.now count) }
 {
     let mut numbers = Vec::new(alloc);
@@ -216,7 +217,7 @@ pub fn missed_at<'a, A: Allocator, B: Allocator>(
     count: u16,
     alloc: A,
 ) -> Result<Vec<u64, A>, Oom>
-    requires { count ≤ 32 }
+    requires { count ≤ most_names }
     ensures { IfOk result (λ numbers. numbers.items ≡
         missed_at (option_map (λ n. n.now) node.entry) (option_map (λ m. m.now) message.entry) count) }
 {

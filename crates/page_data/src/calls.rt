@@ -1,5 +1,6 @@
 //! Makes a recorded call again on a bench, and writes what the page tells of it.
 ghost use Rattle.std.specs.Prelude.{◌≡◌, ◌++◌, ◌<◌, ◌≤◌, None, OnOk, length, option_map, string_bytes};
+ghost use Rattle.dots_core.specs.Names.{most_names};
 ghost use Rattle.bench_core.specs.Acts.{plain_act};
 ghost use Rattle.journal_core.specs.Journals.{first_consequence};
 ghost use Rattle.report_core.specs.ActTexts.{after_act, reply_of};
@@ -35,7 +36,7 @@ fn put_changed<'a, B: Allocator>(
     count: u16,
     alloc: &'a B,
 ) -> Result<(), Oom>
-    requires { count ≤ 32 }
+    requires { count ≤ most_names }
     ensures { OnOk result (string_bytes text.new ≡ string_bytes text.old ++
         changed_text left.now joined.now before.now (option_map (λ n. n.now) node.entry) count) }
 {

@@ -1,6 +1,7 @@
 //! The dots of a name, and how a dot stands.
 ghost use Rattle.std.specs.Prelude.{◌≡◌, ◌++◌, ◌<◌, IfOk, OnOk};
 ghost use Rattle.dots_core.specs.Absorbed.{numbers};
+ghost use Rattle.dots_core.specs.Names.{most_names};
 ghost use Rattle.store_core.specs.Stores.{standing, store_of};
 ghost use Rattle.report_core.specs.Dots.{clock_of};
 ghost use Rattle.page_data.specs.Carried.{clocks_of, more_of};
@@ -53,7 +54,7 @@ pub fn clocks_of<A: Allocator, R: Allocator>(
     name: u16,
     alloc: A,
 ) -> Result<Vec<u64, A>, Oom>
-    requires { name < 32 }
+    requires { name < most_names }
     ensures { IfOk result (λ clocks. clocks.items ≡ clocks_of seen.now name) }
 {
     // form: hands out what the set keeps
@@ -67,7 +68,7 @@ pub fn clocks_of<A: Allocator, R: Allocator>(
 /// How many clocks the cloud of a name has in `seen`.
 #[tactic(auto, unfolding(crate::specs::Carried::more_of))]
 pub fn more_of<R: Allocator>(seen: &DotSet<R>, name: u16) -> u64
-    requires { name < 32 }
+    requires { name < most_names }
     ensures { result ≡ more_of seen.now name }
 {
     // form: hands out what the set keeps
@@ -77,7 +78,7 @@ pub fn more_of<R: Allocator>(seen: &DotSet<R>, name: u16) -> u64
 
 /// The context clock of a name in `seen`; 0 if the name's dot with clock 1 isn't there.
 pub fn last_of<R: Allocator>(seen: &DotSet<R>, name: u16) -> u64
-    requires { name < 32 }
+    requires { name < most_names }
     ensures { result ≡ clock_of seen.now name }
 {
     // form: hands out what the set keeps

@@ -1,6 +1,7 @@
 //! `Seen`: what a node has seen of a name, as numbers. If that changed, the page gets `NAME,STATUS,CLOCK,MORE`: the
 //! number of the name, and the fields of the `Seen` after the change.
 ghost use Rattle.std.specs.Prelude.{◌≡◌, ◌++◌, ◌<◌, ◌≤◌, IfOk, OnOk, option_map};
+ghost use Rattle.dots_core.specs.Names.{most_names};
 ghost use Rattle.page_data.specs.Seen.{all_seen, change_of, changes_in, changes_of, is_same, seen_at, seen_in, seen_of, status_number};
 
 use bench_core::Node;
@@ -42,7 +43,7 @@ fn status_number(status: Option<Status>) -> u64
 /// What a replica has seen of a name.
 #[tactic(auto, unfolding(crate::specs::Seen::seen_of))]
 fn seen_of<R: Allocator>(replica: &Replica<R>, name: u16) -> Seen
-    requires { name < 32 }
+    requires { name < most_names }
     ensures { result ≡ seen_of replica.now name }
 {
     let seen = replica.seen();
@@ -64,7 +65,7 @@ fn all_seen<A: Allocator, R: Allocator>(
     count: u16,
     alloc: A,
 ) -> Result<Vec<Seen, A>, Oom>
-    requires { count ≤ 32 }
+    requires { count ≤ most_names }
     ensures { IfOk result (λ seen. seen.items ≡ all_seen replica.now count) }
 {
     let mut seen = Vec::new(alloc);
@@ -80,7 +81,7 @@ pub fn seen_in<'a, A: Allocator, B: Allocator>(
     count: u16,
     alloc: A,
 ) -> Result<Vec<Seen, A>, Oom>
-    requires { count ≤ 32 }
+    requires { count ≤ most_names }
     ensures { IfOk result (λ seen. seen.items ≡ seen_in (option_map (λ n. n.now) node.entry) count) }
 {
     match node {
@@ -127,7 +128,7 @@ fn changes_of<A: Allocator, R: Allocator>(
     count: u16,
     alloc: A,
 ) -> Result<Vec<u64, A>, Oom>
-    requires { count ≤ 32 }
+    requires { count ≤ most_names }
     ensures { IfOk result (λ numbers. numbers.items ≡ changes_of before.now replica.now count) }
 {
     let mut numbers = Vec::new(alloc);
@@ -146,7 +147,7 @@ pub fn changes_in<'a, A: Allocator, B: Allocator>(
     count: u16,
     alloc: A,
 ) -> Result<Vec<u64, A>, Oom>
-    requires { count ≤ 32 }
+    requires { count ≤ most_names }
     ensures { IfOk result (λ numbers. numbers.items ≡ changes_in before.now (option_map (λ n. n.now) node.entry) count) }
 {
     match node {

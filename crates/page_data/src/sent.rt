@@ -1,5 +1,6 @@
 //! What a message carries.
 ghost use Rattle.std.specs.Prelude.{◌≡◌, ◌++◌, ◌<◌, ◌≤◌, IfOk, OnOk, filter};
+ghost use Rattle.dots_core.specs.Names.{most_names};
 ghost use Rattle.store_core.specs.Stores.{store_of};
 ghost use Rattle.report_core.specs.Dots.{clock_of};
 ghost use Rattle.page_data.specs.Carried.{clock_if, clocks_standing, more_of, name_if_any, names_in, stands_so};
@@ -54,7 +55,7 @@ pub fn clocks_standing<A: Allocator + Copy, R: Allocator>(
     wanted: u64,
     alloc: A,
 ) -> Result<Vec<u64, A>, Oom>
-    requires { name < 32 }
+    requires { name < most_names }
     ensures { IfOk result (λ numbers. numbers.items ≡ clocks_standing message.now name wanted) }
 {
     let clocks = clocks_of(message.seen(), name, alloc)?;
@@ -86,7 +87,7 @@ fn put_name_of<A: Allocator, R: Allocator>(
     message: &Payload<R>,
     name: u16,
 ) -> Result<(), Oom>
-    requires { name < 32 }
+    requires { name < most_names }
     ensures { OnOk result (numbers.new.items ≡ numbers.old.items ++
         name_if_any name (clock_of message.now.seen name) (more_of message.now.seen name)) }
 {
@@ -100,7 +101,7 @@ pub fn names_in<A: Allocator, R: Allocator>(
     count: u16,
     alloc: A,
 ) -> Result<Vec<u64, A>, Oom>
-    requires { count ≤ 32 }
+    requires { count ≤ most_names }
     ensures { IfOk result (λ numbers. numbers.items ≡ names_in message.now count) }
 {
     let mut numbers = Vec::new(alloc);

@@ -1,5 +1,6 @@
 //! Writes what a step reads before it is taken, and what it sends and makes.
 ghost use Rattle.std.specs.Prelude.{◌≡◌, ◌++◌, ◌<◌, ◌≤◌, OnOk, Some, length, option_map, string_bytes};
+ghost use Rattle.dots_core.specs.Names.{most_names};
 ghost use Rattle.bench_core.specs.Laws.{presence_made};
 ghost use Rattle.node_core.specs.Operations.{Broadcast, plain};
 ghost use Rattle.page_data.specs.Carried.{message_in};
@@ -39,7 +40,7 @@ fn put_delivery<'a, B: Allocator>(
     count: u16,
     alloc: &'a B,
 ) -> Result<(), Oom>
-    requires { count ≤ 32 }
+    requires { count ≤ most_names }
     ensures { OnOk result (string_bytes text.new ≡ string_bytes text.old ++
         delivery_keys (option_map (λ n. n.now) node.entry) (option_map (λ m. m.now) message.entry) count) }
 {
@@ -100,7 +101,7 @@ fn put_broadcast<'a, B: Allocator>(
     name: u16,
     alloc: &'a B,
 ) -> Result<(), Oom>
-    requires { name < 32 }
+    requires { name < most_names }
     ensures { OnOk result (string_bytes text.new ≡ string_bytes text.old ++ carried_keys Broadcast message.now name 0) }
 {
     let live = clocks_standing(message, name, 1, alloc)?;
@@ -119,8 +120,8 @@ fn put_carried<'a, B: Allocator>(
     count: u16,
     alloc: &'a B,
 ) -> Result<(), Oom>
-    requires name { name < 32 }
-    requires count { count ≤ 32 }
+    requires name { name < most_names }
+    requires count { count ≤ most_names }
     ensures { OnOk result (string_bytes text.new ≡ string_bytes text.old ++ carried_keys (plain step.now) message.now name count) }
 {
     match step {
@@ -142,8 +143,8 @@ fn put_outbox<'a, B: Allocator>(
     count: u16,
     alloc: &'a B,
 ) -> Result<(), Oom>
-    requires name { name < 32 }
-    requires count { count ≤ 32 }
+    requires name { name < most_names }
+    requires count { count ≤ most_names }
     ensures { OnOk result (string_bytes text.new ≡ string_bytes text.old ++ outbox_keys (plain step.now) (Some node.now) name count) }
 {
     let outbox = node.outbox();

@@ -15,7 +15,7 @@ mod payload;
 mod track_index;
 
 pub use dots_core::Oom;
-pub use entry_core::{Entry, Handle, Word, WordFault};
+pub use entry_core::{Entry, Handle, LONGEST_WORD, Word, WordFault};
 pub use entry_set::EntrySet;
 pub use outbox::{Outbox, OutboxFault};
 pub use payload::Payload;

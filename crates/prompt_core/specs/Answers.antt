@@ -12,6 +12,7 @@ use Rattle.grammar_core.specs.Words.{words_of}
 use Rattle.grammar_core.specs.declared.fault.FaultKind.{FaultKind}
 use Rattle.grammar_core.specs.declared.fault.FaultKind.TheVariants.{NotText, TooLong, NoNodes, Twice, UnknownWord, WrongCount, NotAllowed, BadNumber}
 use Rattle.grammar_core.specs.declared.fault.FaultKind.TheVariants.{BadName, OutOfMemory}
+use Rattle.grammar_core.specs.Grammar.{longest_line, longest_script}
 use Rattle.recording_core.specs.Format.{session}
 use Rattle.explain_core.specs.Explanations.{explanation}
 use Rattle.whatif_report.specs.Texts.{whatif_text}
@@ -80,7 +81,7 @@ told_steps number cast machine = told_by bench_steps number cast machine
 
 -- a script, unless it is longer than a script may be
 abbrev pub script_within : ℕ → List ℕ → List ℕ
-script_within number text = if nat_lt 1048576 (length text) then fault_line number TooLong else text
+script_within number text = if nat_lt longest_script (length text) then fault_line number TooLong else text
 
 -- the recorded calls as a script
 abbrev pub told_script : ℕ → Option Cast → Option Machine → List ℕ
@@ -148,7 +149,7 @@ are_quits words = list_all (λ word. bytes_eq word (codes ":quit")) words
 
 -- whether the line ends the prompt: it has one word, which is `:quit`
 unfoldable pub is_quit : List ℕ → Bool
-is_quit line = nat_le (length line) 4096 && (are_quits (words_of line) && (length (words_of line) == 1))
+is_quit line = nat_le (length line) longest_line && (are_quits (words_of line) && (length (words_of line) == 1))
 
 -- the answers to the lines from this number on, in order, up to the one that ends the prompt
 unfoldable pub answers : List ℕ → Prompt → ℕ → List (List ℕ) → List ℕ

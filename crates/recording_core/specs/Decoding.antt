@@ -4,7 +4,9 @@ use Rattle.std.specs.Prelude.{Option, Some, None, option_and_then, Result, Ok, E
 use Rattle.std.specs.Str.{bytes_eq}
 use Rattle.serde_json.specs.Data.{Data, null, boolean, number, string, array, object, Items, no_items, item, Members, no_members, member}
 use Rattle.serde_json.specs.Find.{get, as_object, as_array, as_str, as_number, as_u64}
-use Rattle.bench_core.specs.Limits.{Limits}
+use Rattle.dots_core.specs.Dots.{last_clock}
+use Rattle.replica_core.specs.Limits.{most_entries, most_messages}
+use Rattle.bench_core.specs.Limits.{most_acts, Limits}
 use Rattle.bench_core.specs.NameList.{Texts, names_of}
 use Rattle.json_core.specs.InLists.{number_in, ends_at}
 use Rattle.event_core.specs.Decoding.{◌>>=◌, kept_if}
@@ -20,8 +22,8 @@ version_of d = option_and_then as_u64 (option_and_then as_number (get (codes "ve
 -- whether each limit is in its range
 abbrev pub are_limits : Limits → Bool
 are_limits l =
-    nat_le 1 l.acts && nat_le l.acts 1000000 && (nat_le 1 l.entries && nat_le l.entries 100000)
-    && (nat_le 1 l.clock && nat_le l.clock 1000000000) && (nat_le 1 l.messages && nat_le l.messages 100000)
+    nat_le 1 l.acts && nat_le l.acts most_acts && (nat_le 1 l.entries && nat_le l.entries most_entries)
+    && (nat_le 1 l.clock && nat_le l.clock last_clock) && (nat_le 1 l.messages && nat_le l.messages most_messages)
 
 unfoldable pub limits_at : Data → Option Limits
 limits_at d = do

@@ -1,6 +1,7 @@
 -- What is kept of a change to take it back (Danos and Krivine, as an inverse record).
 use Rattle.std.specs.Prelude.{◌≡◌, ◌<◌, ℕ, Bool, true, false, List, [], ◌∷◌, Option, None}
 use Rattle.std.specs.FinMap as fin
+use Rattle.dots_core.specs.Names.{most_names}
 use Rattle.dots_core.specs.declared.dot.Dot.{Dot}
 use Rattle.dots_core.specs.Dots.{IsValid}
 use Rattle.payload_core.specs.Presences.{Presence}
@@ -110,19 +111,19 @@ pub record IsUpdate (l : Left) (a b : Replica) : Type 0 where
   pub gives : b ≡ joined presence (dropped dot a)
 
 pub record IsUp (name : ℕ) (before : Option Status) (a b : Replica) : Type 0 where
-  pub number : name < 32
+  pub number : name < most_names
   pub accepted : up_refusal a name ≡ None
   pub stood : before ≡ fin.get a.view name
   pub gives : b ≡ with_status name Up a
 
 pub record IsDown (name : ℕ) (before : Option Status) (a b : Replica) : Type 0 where
-  pub number : name < 32
+  pub number : name < most_names
   pub accepted : down_refusal a name ≡ None
   pub stood : before ≡ fin.get a.view name
   pub gives : b ≡ with_status name Down a
 
 pub record IsPermdown (name : ℕ) (f : Forgotten) (a b : Replica) : Type 0 where
-  pub number : name < 32
+  pub number : name < most_names
   pub accepted : permdown_refusal a name ≡ None
   pub holds : Holds name a.store f
   pub gives : b ≡ forgotten name a

@@ -2,6 +2,7 @@
 use Rattle.std.specs.Prelude.{◌≡◌, ◌<◌, ◌≤◌, true, Some}
 use Rattle.std.specs.FinSet as set
 use Rattle.std.specs.FinMap as fin
+use Rattle.dots_core.specs.Names.{most_names}
 use Rattle.dots_core.specs.declared.dot.Dot.{Dot}
 use Rattle.dots_core.specs.Dots.{AreValid, HasClocks}
 use Rattle.payload_core.specs.Presences.{Presence}
@@ -18,7 +19,7 @@ IsOnce r = (d e : Dot) (p q : Presence) → d.name ≡ r.own → e.name ≡ r.ow
 -- what a replica keeps
 pub record IsReplica (r : Replica) : Type 0 where
   -- the own name is a node's number, known and up; the limits are in their ranges
-  pub name : r.own < 32
+  pub name : r.own < most_names
   pub up : fin.get r.view r.own ≡ Some Up
   pub limits : AreNodeLimits r.limits
   -- dots that were seen are valid and of known names; the own ones are those with the clocks from 1 to the own clock

@@ -4,6 +4,7 @@
 //! takes a call back by its change. A broadcast, which takes the delta out, is taken back in `deltas`.
 ghost use Rattle.std.specs.Prelude.{◌≡◌, ◌↔◌, ◌<◌, ◌≤◌, ◌^◌, IfOk, IsTrue};
 ghost use Rattle.std.specs.FinMap as fin;
+ghost use Rattle.dots_core.specs.Names.{most_names};
 ghost use Rattle.replica_core.specs.Delivered.{AreOtherKnown};
 ghost use Rattle.replica_core.specs.Invariant.{IsReplica};
 ghost use Rattle.replica_core.specs.Limits.{AreNodeLimits};
@@ -171,7 +172,7 @@ impl<A: Allocator> Replica<A> {
 impl<A: Allocator + Copy> Replica<A> {
     /// A replica that has seen nothing and knows its own name alone. It takes no memory.
     pub fn opening(alloc: A, own: u16, limits: NodeLimits) -> Replica<A>
-        requires name { own < 32 }
+        requires name { own < most_names }
         requires limits { AreNodeLimits limits }
         ensures { result ≡ opening own limits }
     {

@@ -1,6 +1,7 @@
 //! `View`: which names are known, and which of them are up.
 ghost use Rattle.std.specs.Prelude.{◌≡◌, ◌↔◌, ◌<◌, IsTrue, true};
 ghost use Rattle.std.specs.FinMap as fin;
+ghost use Rattle.dots_core.specs.Names.{most_names};
 ghost use Rattle.replica_core.specs.Views.{AreKnown, known_of, with_old};
 ghost use Rattle.replica_core.specs.declared.status.Status.TheVariants.{Up, Down};
 
@@ -31,7 +32,7 @@ impl Model for View {
 impl View {
     /// A view that knows the own name alone, as up.
     pub fn opening(own: u16) -> View
-        requires { own < 32 }
+        requires { own < most_names }
         ensures { result ≡ fin.insert fin.empty own Up }
     {
         let own = NameSet::empty().with(own);
@@ -65,7 +66,7 @@ impl View {
 
     /// Makes the name known and up.
     pub fn raise(&mut self, name: u16)
-        requires { name < 32 }
+        requires { name < most_names }
         ensures { self.new ≡ fin.insert self.old name Up }
     {
         self.known = self.known.with(name);
@@ -74,7 +75,7 @@ impl View {
 
     /// Makes the known name down.
     pub fn lower(&mut self, name: u16)
-        requires name { name < 32 }
+        requires name { name < most_names }
         requires known { fin.contains_key self.old name ≡ true }
         ensures { self.new ≡ fin.insert self.old name Down }
     {
@@ -83,7 +84,7 @@ impl View {
 
     /// Forgets the name. If it isn't known, nothing changes.
     pub fn forget(&mut self, name: u16)
-        requires { name < 32 }
+        requires { name < most_names }
         ensures { self.new ≡ fin.remove self.old name }
     {
         self.known = self.known.without(name);
@@ -92,7 +93,7 @@ impl View {
 
     /// Gives the name this status, or forgets the name if `status` is `None`.
     pub fn put(&mut self, name: u16, status: Option<Status>)
-        requires { name < 32 }
+        requires { name < most_names }
         ensures { self.new ≡ with_old name status self.old }
     {
         match status {
@@ -103,7 +104,7 @@ impl View {
 
     /// Gives the name this status, whether it was known or not.
     fn put_known(&mut self, name: u16, status: Status)
-        requires { name < 32 }
+        requires { name < most_names }
         ensures { self.new ≡ fin.insert self.old name status }
     {
         match status {

@@ -1,6 +1,7 @@
 //! Prints the statuses, clocks and clouds at a node.
 ghost use Rattle.std.specs.Prelude.{◌≡◌, ◌++◌, ◌<◌, OnOk, string_bytes, option_map};
 ghost use Rattle.dots_core.specs.Dots.{AreValid};
+ghost use Rattle.dots_core.specs.Names.{most_names};
 ghost use Rattle.report_core.specs.Dots.{clock_of, cloud_of, status_text, cloud_text, more_clocks, name_line, name_lines, seen_line, dots_text};
 
 use crate::rows::name_at;
@@ -13,7 +14,7 @@ use std::alloc::Allocator;
 /// The context clock of a name, which must be below 32. Each dot in `dots` must have a name below 32 and a clock from 1
 /// to 1,000,000,000.
 pub fn clock_of<A: Allocator>(dots: &DotSet<A>, name: u16) -> u64
-    requires name { name < 32 }
+    requires name { name < most_names }
     requires valid { AreValid dots.now }
     ensures { result ≡ clock_of dots.now name }
 {
@@ -24,7 +25,7 @@ pub fn clock_of<A: Allocator>(dots: &DotSet<A>, name: u16) -> u64
 
 /// The cloud of a name, by rising clock. Name and dots must be as in `clock_of`.
 pub fn cloud_of<A: Allocator>(dots: &DotSet<A>, name: u16) -> &[u64]
-    requires name { name < 32 }
+    requires name { name < most_names }
     requires valid { AreValid dots.now }
     ensures { result.now ≡ cloud_of dots.now name }
 {
@@ -93,7 +94,7 @@ fn put_name<A: Allocator, R: Allocator>(
     number: u16,
     name: &str,
 ) -> Result<(), Oom>
-    requires name { number < 32 }
+    requires name { number < most_names }
     requires valid { AreValid replica.now.store.seen }
     ensures { OnOk result (string_bytes text.new ≡ string_bytes text.old ++ name_line replica.now number name.now) }
 {

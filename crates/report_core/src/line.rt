@@ -1,6 +1,7 @@
 //! `Line`: the end of a text, gathered in place, so that many short pieces are appended to the text at once.
 ghost use Rattle.std.specs.Prelude.{◌≡◌, ◌+◌, ◌≤◌, [], ◌++◌, OnOk, codes, decimal, length, string_bytes};
 ghost use Rattle.arrayvec.specs.ArrayString.{array_string_len};
+ghost use Rattle.payload_core.specs.Words.{longest_word};
 ghost use Rattle.report_core.specs.Rows.{parts_text, reply_line};
 ghost use Rattle.bench_core.specs.declared.reply.Reply.TheVariants.{Taken, Undone};
 
@@ -106,9 +107,9 @@ pub(crate) fn put_parts<A: Allocator>(
     line: &mut Line,
     parts: &Parts,
 ) -> Result<(), Oom>
-    requires topic { length parts.now.topic.now ≤ 200 }
-    requires key { length parts.now.key.now ≤ 200 }
-    requires metadata { length parts.now.metadata.now ≤ 200 }
+    requires topic { length parts.now.topic.now ≤ longest_word }
+    requires key { length parts.now.key.now ≤ longest_word }
+    requires metadata { length parts.now.metadata.now ≤ longest_word }
     ensures { OnOk result (string_bytes text.new ++ line.new.bytes ≡ (string_bytes text.old ++ line.old.bytes) ++
         parts_text parts.now.topic.now parts.now.key.now parts.now.node.now parts.now.pid parts.now.metadata.now) }
 {

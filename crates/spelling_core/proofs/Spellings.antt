@@ -10,8 +10,8 @@ use Rattle.percent_encoding.specs.AsciiSet.{should_percent_encode}
 use Rattle.percent_encoding.specs.Percent.{percent_encode, percent_decode, percent_encode_byte, IsKept}
 use Rattle.percent_encoding.proofs.AsciiSetLemmas.{ascii_from_kept}
 use Rattle.percent_encoding.proofs.PercentLemmas.{All-percent_encode, All-percent_encode_byte, IsEscapeByte, percent_encode-nil, percent_encode_escaped, percent_encode_kept, percent_encode_nonempty, percent_encode_unchanged, round_trip}
-use Rattle.payload_core.specs.Words.{is_word, is_word_byte}
-use Rattle.spelling_core.specs.declared.spelling.TheConstants.{SPELLED, LONGEST}
+use Rattle.payload_core.specs.Words.{is_word, is_word_byte, longest_word}
+use Rattle.spelling_core.specs.declared.spelling.TheConstants.{SPELLED}
 use Rattle.spelling_core.specs.WordText.{escaped, spelled, mark, cut, word_of, IsVisible, AreBytes, WordLaw, StaysLaw, OneValueLaw}
 
 -- the bytes that stay as they are
@@ -240,7 +240,7 @@ no_tilde is_string bytes = All-weaker IsPlain NoTilde (λ b h. h.1) (spelled is_
 cut_has_tilde : (n : ℕ) (bytes : List ℕ) → Contains (cut n bytes) 126
 cut_has_tilde n bytes = Contains-append_right (take (200 - length (mark n)) bytes) (mark n) 126 (0, omega arith, refl)
 
-words : (m n : ℕ) (s t : Bool) (xs ys : List ℕ) → length (spelled s xs) ≤ LONGEST →
+words : (m n : ℕ) (s t : Bool) (xs ys : List ℕ) → length (spelled s xs) ≤ longest_word →
     word_of m (spelled s xs) ≡ word_of n (spelled t ys) → spelled s xs ≡ spelled t ys
 words m n s t xs ys short e = go (cases_lt 200 (length (spelled t ys)))
   where
@@ -260,7 +260,7 @@ behind [] (u ∷ us) ys vs no_x no_u e = absurd (no_u.0 (let h : u ≡ 126 = cc 
 behind (x ∷ xs) [] ys vs no_x no_u e = absurd (no_x.0 (let h : x ≡ 126 = cc in h))
 behind (x ∷ xs) (u ∷ us) ys vs no_x no_u e = behind xs us ys vs no_x.1 no_u.1 (let h : xs ++ 126 ∷ ys ≡ us ++ 126 ∷ vs = cc in h)
 
-numbers : (m n : ℕ) (s t : Bool) (xs ys : List ℕ) → m < 2 ^ 64 → n < 2 ^ 64 → LONGEST < length (spelled s xs) → LONGEST < length (spelled t ys) →
+numbers : (m n : ℕ) (s t : Bool) (xs ys : List ℕ) → m < 2 ^ 64 → n < 2 ^ 64 → longest_word < length (spelled s xs) → longest_word < length (spelled t ys) →
     word_of m (spelled s xs) ≡ word_of n (spelled t ys) → m ≡ n
 numbers m n s t xs ys low_m low_n long_x long_y e =
     decimal_injective m n low_m low_n (behind (take (200 - length (mark m)) (spelled s xs)) (take (200 - length (mark n)) (spelled t ys)) (decimal m) (decimal n) (plain m s xs) (plain n t ys)

@@ -4,6 +4,7 @@ use Rattle.std.specs.Coded.{Coded, code_by, coded×, coded_ℕ}
 use Rattle.std.specs.List.{AllByRecursion}
 use Rattle.std.specs.FinMap as fin
 use Rattle.std.specs.FinSet as set
+use Rattle.dots_core.specs.Names.{most_names}
 use Rattle.dots_core.specs.declared.dot.Dot.{Dot}
 use Rattle.dots_core.specs.Dots.{AreValid, HasClocks, IsValid, count_of, dot}
 use Rattle.entry_core.specs.EntryLists.{pairs}
@@ -24,7 +25,7 @@ pub record DeltaStore : Type 0 where
 
 -- what each keeps
 pub record IsDeltaStore (s : DeltaStore) : Type 0 where
-  pub name : s.own < 32
+  pub name : s.own < most_names
   -- seen dots are valid; the own ones are those with the clocks from 1 to the own clock; an entry's dot was seen
   pub valid : AreValid s.store.seen
   pub clocks : HasClocks s.own s.store.seen
@@ -122,7 +123,7 @@ pub record CanBeUndelivered (d : Delivered) (s : DeltaStore) : Type 0 where
   pub earlier : IsDeltaStore (with_undelivered d s)
 
 pub record CanBeRemembered (name : ℕ) (f : Forgotten) (s : DeltaStore) : Type 0 where
-  pub number : name < 32
+  pub number : name < most_names
   pub new : AreNew (pairs f.entries) s.store.entries
   pub earlier : IsDeltaStore (with_remembered name f s)
 

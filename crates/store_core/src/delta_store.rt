@@ -3,7 +3,7 @@
 //! It has the own name, the dots that were seen, the live entries among them, and the delta. The delta has the own dots
 //! that edits touched since the delta was last taken, with the live entries among these dots. A contract sees the plain
 //! `DeltaStore`, two stores of dots and entries. `IsDeltaStore` says what each `DeltaStore` keeps, so that no edit
-//! requires it. These are its clauses: The own name is below 32. Seen dots are valid, and the own ones are those with
+//! requires it. These are its clauses: The own name is below `most_names`. Seen dots are valid, and the own ones are those with
 //! the clocks from 1 to the own clock. An entry's dot was seen. The delta's dots are own and were seen, and its entries
 //! are live. So the fresh dot is new to the store and to the delta, and neither has an own dot above the last one. A
 //! method that takes an edit back requires that the edit can be taken back (`CanBeRestored` and its like).
@@ -11,6 +11,8 @@
 //! Each edit is a method, in the module of its kind. In the middle of an edit an entry may stand in the delta alone,
 //! which no `DeltaStore` may have. So the method calls functions that take single fields, and not the `DeltaStore`.
 ghost use Rattle.std.specs.Prelude.{◌≡◌, ◌↔◌, ◌<◌, ◌≤◌, IfOk, IsTrue};
+ghost use Rattle.dots_core.specs.Dots.{last_clock};
+ghost use Rattle.dots_core.specs.Names.{most_names};
 ghost use Rattle.store_core.specs.DeltaStores.{empty, fresh, last, own_clock};
 
 use dots_core::{Dot, DotSet, Oom};
@@ -87,7 +89,7 @@ impl<A: Allocator> DeltaStore<A> {
     /// The own clock: that of the last own dot, or 0 if there is none.
     pub fn own_clock(&self) -> u64
         ensures clock { result ≡ own_clock self.now }
-        ensures within { result ≤ 1000000000 }
+        ensures within { result ≤ last_clock }
     {
         self.seen.clock_of(self.own)
     }
@@ -127,7 +129,7 @@ impl<A: Allocator> DeltaStore<A> {
 impl<A: Allocator + Copy> DeltaStore<A> {
     /// The empty store. Its own entries are indexed by process, topic and key. It takes no memory.
     pub fn new(alloc: A, own: u16) -> DeltaStore<A>
-        requires { own < 32 }
+        requires { own < most_names }
         ensures { result ≡ empty own }
     {
         DeltaStore {

@@ -2,6 +2,7 @@
 ghost use Rattle.std.specs.Prelude.{◌≡◌, ◌≢◌, ◌==◌, ◌<◌, IfErr, IfOk, OnErr, OnOk};
 ghost use Rattle.std.specs.FinMap as fin;
 ghost use Rattle.std.specs.FinSet as set;
+ghost use Rattle.dots_core.specs.Names.{most_names};
 ghost use Rattle.entry_core.specs.EntryLists.{pairs};
 ghost use Rattle.store_core.specs.DeltaStores.{CanBeRemembered, with_remembered};
 ghost use Rattle.store_core.specs.ForgottenNames.{Holds};
@@ -35,7 +36,7 @@ impl<A: Allocator + Copy> DeltaStore<A> {
     /// Forgets `name`, which isn't the own name: takes out its dots and entries. The delta stays, as it has own dots
     /// alone. What the store held of the name is returned, for `remember`. An `Err` changes nothing.
     pub fn forget(&mut self, name: u16) -> Result<Forgotten<A>, Oom>
-        requires name { name < 32 }
+        requires name { name < most_names }
         requires other { name ≢ self.old.own }
         ensures forgotten { OnOk result (self.new ≡ record self.old { store = part (is_other name) self.old.store }) }
         ensures held { IfOk result (Holds name self.old.store) }

@@ -3,7 +3,8 @@ ghost use Rattle.std.specs.Prelude.{◌≡◌, ◌+◌, ◌<◌, ◌≤◌, [], 
 ghost use Rattle.std.specs.FinMap as fin;
 ghost use Rattle.std.specs.FinSet as set;
 ghost use Rattle.dots_core.specs.Contexts.{IsLast};
-ghost use Rattle.dots_core.specs.Dots.{HasClocks, IsValid, count_of, dot};
+ghost use Rattle.dots_core.specs.Dots.{last_clock, HasClocks, IsValid, count_of, dot};
+ghost use Rattle.dots_core.specs.Names.{most_names};
 ghost use Rattle.entry_core.specs.EntryLists.{pairs};
 ghost use Rattle.store_core.specs.EntryMoves.{AreNew, dots_of_pairs, with_each, without_each};
 ghost use Rattle.store_core.specs.DeltaStores.{AreOwn, CanAllBeRestored, left_each, own_clock, with_lefts};
@@ -26,7 +27,7 @@ impl<A: Allocator + Copy> DeltaStore<A> {
     /// so that nothing must be put back if memory is refused.
     pub fn leave_each(&mut self, dots: &[Dot]) -> Result<Vec<Left<A>, A>, Oom>
         requires own { AreOwn dots.now self.old }
-        requires free { own_clock self.old + length dots.now ≤ 1000000000 }
+        requires free { own_clock self.old + length dots.now ≤ last_clock }
         ensures left { OnOk result (self.new ≡ left_each dots.now self.old) }
         ensures stood { IfOk result (λ lefts. lefts.items ≡ lefts_of dots.now self.old.store.entries self.old.delta.entries self.old.delta.seen) }
         ensures err { OnErr result (self.new ≡ self.old) }
@@ -113,8 +114,8 @@ fn copy_with<A: Allocator + Copy>(
     clock: u64,
 ) -> Result<DotSet<A>, Oom>
     requires valid { All IsValid dots.now }
-    requires name { name < 32 }
-    requires fits { clock + length dots.now ≤ 1000000000 }
+    requires name { name < most_names }
+    requires fits { clock + length dots.now ≤ last_clock }
     ensures { IfOk result (λ copy. copy ≡ with_next name clock (length dots.now) (with_dots dots.now seen.now)) }
 {
     let mut copy = seen.try_copy()?;
@@ -142,8 +143,8 @@ fn see_next<A: Allocator>(
     clock: u64,
     count: usize,
 ) -> Result<(), Oom>
-    requires name { name < 32 }
-    requires fits { clock + count ≤ 1000000000 }
+    requires name { name < most_names }
+    requires fits { clock + count ≤ last_clock }
     ensures seen { OnOk result (seen.new ≡ with_next name clock count seen.old) }
     ensures succeeds { HasClocks name seen.old → clock ≡ count_of name seen.old → IsOk result }
 {
@@ -208,8 +209,8 @@ fn copy_without<A: Allocator + Copy>(
     lefts: &[Left<A>],
 ) -> Result<DotSet<A>, Oom>
     requires valid { All (λ left. IsValid left.entry.dot) lefts.now }
-    requires name { name < 32 }
-    requires fits { clock + length lefts.now ≤ 1000000000 }
+    requires name { name < most_names }
+    requires fits { clock + length lefts.now ≤ last_clock }
     ensures { IfOk result (λ copy. copy ≡ dots_before_each lefts.now (without_next name clock (length lefts.now) seen.now)) }
 {
     let mut copy = seen.try_copy()?;
@@ -238,8 +239,8 @@ fn unsee_next<A: Allocator>(
     clock: u64,
     count: usize,
 ) -> Result<(), Oom>
-    requires name { name < 32 }
-    requires fits { clock + count ≤ 1000000000 }
+    requires name { name < most_names }
+    requires fits { clock + count ≤ last_clock }
     ensures seen { OnOk result (seen.new ≡ without_next name clock count seen.old) }
     ensures succeeds { IsLast (dot name (clock + count)) seen.old → IsOk result }
 {

@@ -3,6 +3,7 @@ ghost use Rattle.std.specs.Prelude.{◌≡◌, ◌↔◌, ◌<◌, false, IfErr,
 ghost use Rattle.std.specs.FinMap as fin;
 ghost use Rattle.std.specs.FinSet as set;
 ghost use Rattle.dots_core.specs.Dots.{of_names};
+ghost use Rattle.dots_core.specs.Names.{most_names};
 ghost use Rattle.store_core.specs.Delivered.{AreOldParts, Changes, Destroys, with_parts};
 ghost use Rattle.store_core.specs.DeltaStores.{CanBeUndelivered, with_undelivered};
 ghost use Rattle.entry_core.specs.EntryLists.{pairs};
@@ -26,13 +27,14 @@ pub struct OldPart<A: Allocator> {
 
 impl<A: Allocator> Model for OldPart<A> {
     ghost use Rattle.std.specs.Prelude.{◌<◌};
+    ghost use Rattle.dots_core.specs.Names.{most_names};
     ghost use Rattle.store_core.specs.Delivered.{OldPart};
 
     ghost Value = { OldPart };
 
     ghost view = { λ p. record { name = p.name; part = p.part } };
 
-    ghost invariant = { λ p. p.name < 32 };
+    ghost invariant = { λ p. p.name < most_names };
 }
 
 /// What is kept of a delivery to a store, to take it back: the dots whose entries joined, the entries that left, and
@@ -162,7 +164,7 @@ fn old_parts<A: Allocator + Copy>(
 
 /// Whether the name is one of `names`, and `other` has a dot of it that `seen` doesn't have.
 fn changes<A: Allocator>(seen: &DotSet<A>, other: &DotSet<A>, names: NameSet, name: u16) -> bool
-    requires { name < 32 }
+    requires { name < most_names }
     ensures { IsTrue result ↔ Changes (set.contains names) other.now seen.now name }
 {
     names.has(name) && !seen.has_all_of(other, name)

@@ -3,7 +3,7 @@ ghost use Rattle.std.specs.Prelude.{◌≡◌, ◌<◌, ◌≤◌, IfOk, None, O
 ghost use Rattle.std.specs.FinMap as fin;
 ghost use Rattle.std.specs.FinSet as set;
 ghost use Rattle.dots_core.specs.Contexts.{IsLast};
-ghost use Rattle.dots_core.specs.Dots.{IsValid};
+ghost use Rattle.dots_core.specs.Dots.{last_clock, IsValid};
 ghost use Rattle.entry_core.specs.Presences.{entry_of, presence_of};
 ghost use Rattle.store_core.specs.DeltaStores.{CanBeUnjoined, fresh, joined, own_clock, without_last};
 
@@ -35,7 +35,7 @@ impl<A: Allocator + Copy> DeltaStore<A> {
         key: &Word<A>,
         metadata: &Word<A>,
     ) -> Result<(), Oom>
-        requires { own_clock self.old < 1000000000 }
+        requires { own_clock self.old < last_clock }
         ensures joined { OnOk result (self.new ≡ joined (record { pid = pid; topic = topic.now; key = key.now; metadata = metadata.now }) self.old) }
         ensures err { OnErr result (self.new ≡ self.old) }
     {

@@ -4,7 +4,7 @@ ghost use Rattle.std.specs.Prelude.{◌≡◌, ◌<◌, false, true, IfErr, IfOk
 ghost use Rattle.std.specs.FinMap as fin;
 ghost use Rattle.std.specs.FinSet as set;
 ghost use Rattle.dots_core.specs.Contexts.{IsLast};
-ghost use Rattle.dots_core.specs.Dots.{IsValid};
+ghost use Rattle.dots_core.specs.Dots.{last_clock, IsValid};
 ghost use Rattle.store_core.specs.DeltaStores.{CanBeRestored, dropped, joined, left, own_clock, with_left};
 ghost use Rattle.store_core.specs.LeftEntries.{IsFree, Stood, dots_before, put as put_in, taken};
 ghost use Rattle.entry_core.specs.Presences.{Entries, entry_of, presence_of};
@@ -23,7 +23,7 @@ impl<A: Allocator + Copy> DeltaStore<A> {
     pub fn leave(&mut self, dot: Dot) -> Result<Left<A>, Oom>
         requires own { dot.name ≡ self.old.own }
         requires live { fin.contains_key self.old.store.entries dot ≡ true }
-        requires free { own_clock self.old < 1000000000 }
+        requires free { own_clock self.old < last_clock }
         ensures left { OnOk result (self.new ≡ left dot self.old) }
         ensures stood { IfOk result (λ left. Stood left dot self.old.store self.old.delta) }
         ensures err { OnErr result (self.new ≡ self.old) }
@@ -57,7 +57,7 @@ impl<A: Allocator + Copy> DeltaStore<A> {
     ) -> Result<Left<A>, Oom>
         requires own { dot.name ≡ self.old.own }
         requires live { fin.contains_key self.old.store.entries dot ≡ true }
-        requires free { own_clock self.old < 1000000000 }
+        requires free { own_clock self.old < last_clock }
         ensures updated { OnOk result (self.new ≡ joined (record { pid = pid; topic = topic.now; key = key.now; metadata = metadata.now })
             (dropped dot self.old)) }
         ensures stood { IfOk result (λ left. Stood left dot self.old.store self.old.delta) }

@@ -4,15 +4,15 @@ use Rattle.std.specs.List.{AllByRecursion}
 use Rattle.bench_core.specs.Acts.{Action, Do, Undo, Back}
 use Rattle.bench_core.specs.Machine.{Machine}
 use Rattle.bench_core.specs.NameList.{Texts}
-use Rattle.grammar_core.specs.Casts.{Cast}
-use Rattle.grammar_core.specs.Grammar.{with_each}
+use Rattle.grammar_core.specs.Casts.{most_consoles, Cast}
+use Rattle.grammar_core.specs.Grammar.{longest_script, with_each}
 use Rattle.run_core.specs.ReadSteps.{AreNodes, IsNumber, IsWritten}
 use Rattle.transcript_core.specs.Scripts.{IsReadBack, cast_of, script_text}
 
 -- these are the names of a `consoles` line, or none
 pub record AreConsoles (nodes consoles : Texts) : Type 0 where
   pub taken : with_each nodes [] consoles ≡ Ok consoles
-  pub few : length consoles ≤ 16
+  pub few : length consoles ≤ most_consoles
 
 -- a line of a script can ask this call
 abbrev pub CanBeAsked : Cast → ℕ → Action → Type 0
@@ -25,7 +25,7 @@ pub record CanBeTold (m : Machine) (consoles : Texts) : Type 0 where
   pub nodes : AreNodes m.names
   pub named : AreConsoles m.names consoles
   pub calls : AllByRecursion (λ e. CanBeAsked (cast_of m consoles) e.actor e.act) m.state.history
-  pub short : length (script_text (cast_of m consoles) m.state.history) ≤ 1048576
+  pub short : length (script_text (cast_of m consoles) m.state.history) ≤ longest_script
 
 -- the script of the calls is read back, if it can be told
 abbrev pub ScriptLaw : Type 0

@@ -4,7 +4,7 @@ use Rattle.std.specs.List.{AllByRecursion, flat_map}
 use Rattle.journal_core.specs.Journals.{Kept}
 use Rattle.bench_core.specs.Acts.{Do}
 use Rattle.bench_core.specs.NameList.{Texts}
-use Rattle.grammar_core.specs.Grammar.{script_of}
+use Rattle.grammar_core.specs.Grammar.{longest_script, script_of}
 use Rattle.grammar_core.specs.Scripts.{Call, Command, Script}
 use Rattle.report_core.specs.StepText.{act_line}
 use Rattle.run_core.specs.ReadSteps.{AreNodes, IsWritten}
@@ -42,7 +42,7 @@ pub record IsReadAsRun (names : Texts) (ks : List Kept) (text : List ℕ) : Type
 pub record CanBePlayed (names : Texts) (ks : List Kept) : Type 0 where
   pub nodes : AreNodes names
   pub steps : AllByRecursion (λ k. (k.node < length names) × IsWritten names k.step) ks
-  pub short : length (run_text [] names ks) ≤ 1048576
+  pub short : length (run_text [] names ks) ≤ longest_script
 
 -- the script of the run is read back, if it can be played
 abbrev pub RunLaw : Type 0

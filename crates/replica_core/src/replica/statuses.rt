@@ -1,5 +1,6 @@
 //! The statuses of the other names: up, down and permanently down; and taking each back.
 ghost use Rattle.std.specs.Prelude.{◌≡◌, ◌<◌, IfErr, IfOk, OnErr, OnOk};
+ghost use Rattle.dots_core.specs.Names.{most_names};
 ghost use Rattle.payload_core.specs.EntryLists.{pairs};
 ghost use Rattle.store_core.specs.EntryMoves.{AreNew};
 ghost use Rattle.replica_core.specs.declared.status.Status.TheVariants.{Down, Up};
@@ -45,7 +46,7 @@ impl<A: Allocator> Replica<A> {
 
     /// Gives the name its status `before` again; if that is `None`, the name isn't known any more.
     pub(super) fn put_status(&mut self, name: u16, before: Option<Status>)
-        requires name { name < 32 }
+        requires name { name < most_names }
         requires earlier { IsReplica (with_old_status name before self.old) }
         ensures { self.new ≡ with_old_status name before self.old }
     {
@@ -61,7 +62,7 @@ impl<A: Allocator> Replica<A> {
     ) -> Result<(), (Forgotten<A>, Oom)>
     where
         A: Copy,
-        requires name { name < 32 }
+        requires name { name < most_names }
         requires new { AreNew (pairs forgotten.entries) self.old.store.entries }
         requires earlier { IsReplica (with_remembered name forgotten self.old) }
         ensures ok { OnOk result (self.new ≡ with_remembered name forgotten self.old) }
@@ -80,7 +81,7 @@ impl<A: Allocator> Replica<A> {
 impl<A: Allocator + Copy> Replica<A> {
     /// Makes the name known and up. The own name is refused with `OwnReplica`.
     pub fn up(&mut self, name: u16) -> Result<Change<A>, ReplicaFault>
-        requires { name < 32 }
+        requires { name < most_names }
         ensures up { OnOk result (self.new ≡ with_status name Up self.old) }
         ensures refused { IsRefusedFor (up_refusal self.old name) result }
         ensures leads_back { IfOk result (λ change. ChangeLeadsBack (plain_change change) self.new self.old) }
@@ -96,7 +97,7 @@ impl<A: Allocator + Copy> Replica<A> {
 
     /// Makes the known name down. The refusals come in this order: `OwnReplica`, `NotKnown`.
     pub fn down(&mut self, name: u16) -> Result<Change<A>, ReplicaFault>
-        requires { name < 32 }
+        requires { name < most_names }
         ensures down { OnOk result (self.new ≡ with_status name Down self.old) }
         ensures refused { IsRefusedFor (down_refusal self.old name) result }
         ensures leads_back { IfOk result (λ change. ChangeLeadsBack (plain_change change) self.new self.old) }
@@ -113,7 +114,7 @@ impl<A: Allocator + Copy> Replica<A> {
     /// Forgets the name: its dots, its entries and its status. The delta stays, as it has own dots alone. The refusals
     /// come in this order: `OwnReplica`, `NotKnown`, `NotDown`. It walks over the name's entries.
     pub fn permdown(&mut self, name: u16) -> Result<Change<A>, ReplicaFault>
-        requires { name < 32 }
+        requires { name < most_names }
         ensures forgotten { OnOk result (self.new ≡ forgotten name self.old) }
         ensures refused { IsRefusedFor (permdown_refusal self.old name) result }
         ensures leads_back { IfOk result (λ change. ChangeLeadsBack (plain_change change) self.new self.old) }

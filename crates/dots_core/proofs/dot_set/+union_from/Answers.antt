@@ -23,7 +23,7 @@ returns-in-Some-clause-ok g t c =
     let grown : IsGrown own other (Some c.in-Some.part) =
     subst (λ (z : Clocks). IsGrown own z (Some c.in-Some.part)) c.index-others-at.is
     (subst (IsGrown own c.index-others-at.result) c.in-Some.is c.in_ok-new.ensures) in
-    let name : c.args.name < 32 = omega (arith, c.requires.name, c.if-name-eq32.false) in
+    let name : c.args.name < 32 = omega (arith, c.requires.name, c.if-name-eq-MOST_NAMES.false) in
     let on : set.contains c.args.names c.args.name ≡ true = cc (c.has.ensures, c.if-not-has.false) in
     union_grown_at c.args.names c.args.name c.from-at.result c.args.parts.now c.args.others.now c.union_from-2.new.parts
     c.index-parts-at.result c.index-others-at.result c.in-Some.part
@@ -36,7 +36,7 @@ returns-clause-ok g t c =
     let grown : IsGrown own other None =
     subst (λ (z : Clocks). IsGrown own z None) c.index-others-at.is
     (subst (IsGrown own c.index-others-at.result) c.in_default.is c.in_ok-new.ensures) in
-    let name : c.args.name < 32 = omega (arith, c.requires.name, c.if-name-eq32.false) in
+    let name : c.args.name < 32 = omega (arith, c.requires.name, c.if-name-eq-MOST_NAMES.false) in
     let on : set.contains c.args.names c.args.name ≡ true = cc (c.has.ensures, c.if-not-has.false) in
     union_kept_at c.args.names c.args.name c.from-at.result c.args.parts.now c.args.others.now c.union_from-2.new.parts
     c.index-parts-at.result c.index-others-at.result
@@ -48,5 +48,5 @@ offset_bounds-parts-at-in-Some g t c = grind (arith, common_steps)
 pub offset_bounds-parts-at : goal.offset_bounds-parts-at
 offset_bounds-parts-at g t c = grind (arith, common_steps)
 
-pub returns-then-name-eq32-clause-ok : goal.returns-then-name-eq32-clause-ok
-returns-then-name-eq32-clause-ok g t c = grind (arith, common_steps)
+pub returns-then-name-eq-MOST_NAMES-clause-ok : goal.returns-then-name-eq-MOST_NAMES-clause-ok
+returns-then-name-eq-MOST_NAMES-clause-ok g t c = grind (arith, common_steps)
