@@ -3,17 +3,18 @@
 ghost use Rattle.std.specs.Prelude.{◌≡◌, ◌<◌, ◌≤◌, ◌-◌, IfOk, drop, length, option_map};
 ghost use Rattle.bench_core.specs.Machine.{Machine};
 ghost use Rattle.change_core.specs.Ends.{rows_before};
-ghost use Rattle.change_core.specs.Questions.{Question};
+ghost use Rattle.change_core.specs.Questions.{Question as Asked};
 ghost use Rattle.change_core.specs.Searches.{known_of, AreRowsAfter, AreRowsOf, AreWalks, Finds, IsSearch, Meets, MeetsOn};
 ghost use Rattle.change_core.specs.Walks.{steps_in, IsWalkOf};
 
 use crate::change::Change;
 use crate::changed::{all_places, places_with};
+use crate::question::Question;
 use crate::rows::{Rows, copied_rows, rows_at};
 use crate::walk::Walk;
 use bench_core::{Bench, Kept};
 use diff_core::OnlineRow;
-use payload_core::{Oom, Word};
+use payload_core::Oom;
 use std::alloc::Allocator;
 use std::marker::Model;
 
@@ -173,7 +174,7 @@ impl<'a, B: Allocator> Search<'a, B> {
         alloc: &'a B,
     ) -> Result<Self, Oom>
         requires { steps.now ≡ bench.now.state.remaining }
-        ensures { IfOk result (λ search. (q : Question) → before.now ≡ rows_before bench.now q → IsSearch bench.now q steps.now search) }
+        ensures { IfOk result (λ search. (q : Asked) → before.now ≡ rows_before bench.now q → IsSearch bench.now q steps.now search) }
     {
         // form: hands out what the value keeps
         bench.bench_law();
@@ -225,9 +226,9 @@ impl<'a, B: Allocator> Search<'a, B> {
         by_recorded < by_last || (by_recorded == by_last && self.prefers_last)
     }
 
-    /// Looks for a known run that ends in the same cluster as `run`. Gives true for the last run, false for the recorded
-    /// one, and `None` if neither was found to end so, though one may. `run` is given by the places of its steps.
-    /// Notes in `prefers_last` which of the two the next run is expected to end like.
+    /// Looks for a known run that ends in the same cluster as `run`. Gives true for the last run, false for the
+    /// recorded one, and `None` if neither was found to end so, though one may. `run` is given by the places of its
+    /// steps. Notes in `prefers_last` which of the two the next run is expected to end like.
     fn find_known(&mut self, steps: &[Kept<&'a B>], run: &[usize]) -> Result<Option<bool>, Oom>
         requires { AreWalks steps.now self.old }
         ensures { IfOk result (Finds steps.now run.now self.old self.new) }
@@ -255,25 +256,23 @@ impl<'a, B: Allocator> Search<'a, B> {
         copied_rows(self.recorded.rows.as_slice(), alloc)
     }
 
-    /// The rows with this topic and key at the node, at the end of the run of the steps at these places; `None` if a
-    /// step is refused. Plays the run up to its end.
+    /// The rows that are asked for, at the end of the run of the steps at these places; `None` if a step is refused.
+    /// Plays the run up to its end.
     fn own_rows(
         &mut self,
         steps: &[Kept<&'a B>],
         run: &[usize],
-        node: u16,
-        topic: &Word<&'a B>,
-        key: &Word<&'a B>,
+        question: &Question<&'a B>,
         alloc: &'a B,
     ) -> Result<Option<Rows<&'a B>>, Oom>
         requires { AreWalks steps.now self.old }
-        ensures { IfOk result (λ rows. (m : Machine) → IsSearch m (record { node = node; topic = topic.now; key = key.now }) steps.now self.old →
-            AreRowsOf m (record { node = node; topic = topic.now; key = key.now }) steps.now run.now self.new (option_map (λ r. r.items) rows)) }
+        ensures { IfOk result (λ rows. (m : Machine) → IsSearch m question.now steps.now self.old →
+            AreRowsOf m question.now steps.now run.now self.new (option_map (λ r. r.items) rows)) }
     {
         if !self.here.go_to(steps, run)? {
             return Ok(None);
         }
-        let rows = rows_at(self.here.cluster(), node, topic, key, alloc)?;
+        let rows = rows_at(self.here.cluster(), question, alloc)?;
         Ok(Some(rows))
     }
 
@@ -283,45 +282,41 @@ impl<'a, B: Allocator> Search<'a, B> {
         &mut self,
         steps: &[Kept<&'a B>],
         run: &[usize],
-        node: u16,
-        topic: &Word<&'a B>,
-        key: &Word<&'a B>,
+        question: &Question<&'a B>,
         alloc: &'a B,
     ) -> Result<Option<Rows<&'a B>>, Oom>
         requires { AreWalks steps.now self.old }
-        ensures { IfOk result (λ rows. (m : Machine) → IsSearch m (record { node = node; topic = topic.now; key = key.now }) steps.now self.old →
-            AreRowsOf m (record { node = node; topic = topic.now; key = key.now }) steps.now run.now self.new (option_map (λ r. r.items) rows)) }
+        ensures { IfOk result (λ rows. (m : Machine) → IsSearch m question.now steps.now self.old →
+            AreRowsOf m question.now steps.now run.now self.new (option_map (λ r. r.items) rows)) }
     {
         match self.find_known(steps, run)? {
             Some(is_last) => Ok(Some(self.known_rows(is_last, alloc)?)),
-            None => self.own_rows(steps, run, node, topic, key, alloc),
+            None => self.own_rows(steps, run, question, alloc),
         }
     }
 
-    /// The rows with this topic and key at the node, at the end of the run with this change; `None` if that run isn't
-    /// possible. `new` must have been given the same steps, and the rows with this topic and key at this node. Both
-    /// places of the change must be places of steps. A possible run becomes the last one. After a refused request for
-    /// memory the search can't be used again.
+    /// The rows that are asked for, at the end of the run with this change; `None` if that run isn't possible. `new`
+    /// must have been given the same steps, and the rows that this question asks for. Both places of the change must be
+    /// places of steps. A possible run becomes the last one. After a refused request for memory the search can't be
+    /// used again.
     pub fn rows_after(
         &mut self,
         steps: &[Kept<&'a B>],
         change: Change,
-        node: u16,
-        topic: &Word<&'a B>,
-        key: &Word<&'a B>,
+        question: &Question<&'a B>,
         alloc: &'a B,
     ) -> Result<Option<Rows<&'a B>>, Oom>
         requires walks { AreWalks steps.now self.old }
         requires place { change.place < length steps.now }
         requires beside { change.beside < length steps.now }
         ensures { IfOk result (λ rows. (m : Machine) → steps.now ≡ m.state.remaining
-            → IsSearch m (record { node = node; topic = topic.now; key = key.now }) steps.now self.old →
-            AreRowsAfter m (record { node = node; topic = topic.now; key = key.now }) steps.now change self.new (option_map (λ r. r.items) rows)) }
+            → IsSearch m question.now steps.now self.old →
+            AreRowsAfter m question.now steps.now change self.new (option_map (λ r. r.items) rows)) }
     {
         let Some(run) = places_with(steps, change, alloc)? else {
             return Ok(None);
         };
-        let Some(rows) = self.rows_of(steps, run.as_slice(), node, topic, key, alloc)? else {
+        let Some(rows) = self.rows_of(steps, run.as_slice(), question, alloc)? else {
             return Ok(None);
         };
         let copies = copied_rows(rows.as_slice(), alloc)?;

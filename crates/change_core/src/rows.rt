@@ -3,6 +3,7 @@ ghost use Rattle.std.specs.Prelude.{◌≡◌, IfOk, filter, option_map};
 ghost use Rattle.change_core.specs.Ends.{rows_before};
 ghost use Rattle.change_core.specs.Questions.{is_of, rows_at, rows_in};
 
+use crate::question::Question;
 use bench_core::{Bench, Cluster, Node};
 use diff_core::{OnlineRow, online_list};
 use payload_core::{Oom, Word};
@@ -55,32 +56,37 @@ pub fn rows_in<'a, B: Allocator>(
     rows
 }
 
-/// The rows with this topic and key in the online list of a node of the cluster; none if there is no such node.
+/// The rows that are asked for, as the cluster has them; none if there is no such node.
 #[tactic(auto, unfolding(crate::specs::Questions::rows_at))]
 pub(crate) fn rows_at<'a, B: Allocator>(
     cluster: &Cluster<'a, B>,
-    node: u16,
-    topic: &Word<&'a B>,
-    key: &Word<&'a B>,
+    question: &Question<&'a B>,
     alloc: &'a B,
 ) -> Result<Rows<&'a B>, Oom>
-    ensures { IfOk result (λ rows. rows.items ≡ rows_at (record { node = node; topic = topic.now; key = key.now }) cluster.now) }
+    ensures { IfOk result (λ rows. rows.items ≡ rows_at question.now cluster.now) }
 {
-    rows_in(cluster.node(node), topic, key, alloc)
+    rows_in(
+        cluster.node(question.node),
+        &question.topic,
+        &question.key,
+        alloc,
+    )
 }
 
-/// The rows of this node's online list with this topic and key, at the end of the recorded run; none if there is no
-/// such node.
+/// The rows that are asked for, at the end of the recorded run; none if there is no such node.
 pub fn rows_before<'a, B: Allocator>(
     bench: &Bench<'a, B>,
-    node: u16,
-    topic: &Word<&'a B>,
-    key: &Word<&'a B>,
+    question: &Question<&'a B>,
     alloc: &'a B,
 ) -> Result<Rows<&'a B>, Oom>
-    ensures { IfOk result (λ rows. rows.items ≡ rows_before bench.now (record { node = node; topic = topic.now; key = key.now })) }
+    ensures { IfOk result (λ rows. rows.items ≡ rows_before bench.now question.now) }
 {
-    rows_in(bench.node(node), topic, key, alloc)
+    rows_in(
+        bench.node(question.node),
+        &question.topic,
+        &question.key,
+        alloc,
+    )
 }
 
 pub(crate) fn copied_rows<A: Allocator + Copy>(

@@ -12,6 +12,6 @@ mod difference;
 mod differing;
 pub mod laws;
 
-pub use change_core::{Change, Kind, run_with};
+pub use change_core::{Change, Kind, Question, run_with};
 pub use difference::Difference;
 pub use differing::{Differences, whatif};

@@ -1,5 +1,5 @@
 -- What is asked for by words: the differences, or the run with one of them.
-use Rattle.std.specs.Prelude.{◌≡◌, ◌⊎◌, ℕ, false, true, List, [], Option, None, Some, IsSome, length}
+use Rattle.std.specs.Prelude.{◌≡◌, ◌⊎◌, ℕ, false, true, List, [], None, Some, IsSome, length}
 use Rattle.payload_core.specs.Messages.{numbered}
 use Rattle.payload_core.specs.Words.{is_word}
 use Rattle.entry_core.specs.declared.word.WordFault.{WordFault}

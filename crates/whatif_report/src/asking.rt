@@ -4,7 +4,7 @@ ghost use Rattle.payload_core.specs.Messages.{numbered};
 ghost use Rattle.whatif_core.specs.Differences.{nearest_change};
 ghost use Rattle.whatif_core.specs.Exact.{HasOrder};
 ghost use Rattle.progress_core.specs.Watches.{Watched};
-ghost use Rattle.whatif_report.specs.Answers.{IsAnswer, IsRun, IsScriptWith, Refuses, RefusesRun};
+ghost use Rattle.whatif_report.specs.Answers.{Asks, IsAnswer, IsRun, IsScriptWith, Refuses, RefusesRun};
 
 use crate::run_text::script_of;
 use crate::telling::tell;
@@ -24,6 +24,23 @@ pub struct Question<'q> {
     pub key: &'q str,
 }
 
+/// The question by number and words. Refused as in `whatif_asked`.
+fn question_of<'a, B: Allocator>(
+    bench: &Bench<'a, B>,
+    alloc: &'a B,
+    question: Question<'_>,
+) -> Result<whatif_core::Question<&'a B>, WhatifFault>
+    ensures asks { IfOk result (Asks bench.now question.entry) }
+    ensures refused { IfErr result (Refuses bench.now question.entry) }
+{
+    let Some(node) = bench.names().number_of(question.node) else {
+        return Err(WhatifFault::NoSuchNode);
+    };
+    let topic = Word::new(alloc, question.topic)?;
+    let key = Word::new(alloc, question.key)?;
+    Ok(whatif_core::Question { node, topic, key })
+}
+
 /// What would have made a difference, as a text: each single change after which the node lists other rows of the topic
 /// and key, with the rows that go and come. Changes of the same step and kind with the same rows are told together.
 /// `NoSuchNode` if no node has the name, then `NoWord` if the topic or the key isn't a word. Tells `watch` after each
@@ -38,12 +55,8 @@ pub fn whatif_asked<'a, B: Allocator, W: Watch<Tried>>(
     ensures refused { IfErr result (Refuses bench.now question.entry) }
     ensures watched { Watched W.told watch.old watch.new }
 {
-    let Some(node) = bench.names().number_of(question.node) else {
-        return Err(WhatifFault::NoSuchNode);
-    };
-    let topic = Word::new(alloc, question.topic)?;
-    let key = Word::new(alloc, question.key)?;
-    Ok(tell(bench, node, &topic, &key, alloc, watch)?)
+    let asked = question_of(bench, alloc, question)?;
+    Ok(tell(bench, &asked, alloc, watch)?)
 }
 
 /// The nearest change of the difference with this number in the text, counted from 1; `None` if there is none.
@@ -96,12 +109,8 @@ pub fn run_with_change<'a, B: Allocator, W: Watch<Tried>>(
 {
     // form: hands out a law, for the proof
     exact_law();
-    let Some(node) = bench.names().number_of(question.node) else {
-        return Err(WhatifFault::NoSuchNode);
-    };
-    let topic = Word::new(alloc, question.topic)?;
-    let key = Word::new(alloc, question.key)?;
-    let found = whatif(bench, node, &topic, &key, alloc, watch)?;
+    let asked = question_of(bench, alloc, question)?;
+    let found = whatif(bench, &asked, alloc, watch)?;
     let changes = found.told.len();
     let change = change_at(found.told.as_slice(), number);
     // form: drop before exit

@@ -4,33 +4,30 @@ ghost use Rattle.journal_core.specs.Holdings.{kepts};
 ghost use Rattle.change_core.specs.Changes.{changes};
 ghost use Rattle.whatif_core.specs.Differences.{Tally, tally_of};
 ghost use Rattle.change_core.specs.Ends.{rows_before};
-ghost use Rattle.change_core.specs.Questions.{Question};
 ghost use Rattle.progress_core.specs.Watches.{Watched};
 ghost use Rattle.whatif_report.specs.Texts.{asked_words, counts_words, differences_text, head_line, whatif_text};
 
 use crate::change_text::put_difference;
 use bench_core::{Bench, Journal, Names};
 use diff_core::OnlineRow;
-use payload_core::{Oom, Word};
+use payload_core::Oom;
 use progress_core::{Tried, Watch};
 use report_core::{name_at, put_rows};
 use std::alloc::Allocator;
-use whatif_core::{Difference, Differences, whatif};
+use whatif_core::{Difference, Differences, Question, whatif};
 
 /// Appends `whatif NODE TOPIC KEY`.
 #[tactic(auto, unfolding(crate::specs::Texts::asked_words))]
 fn put_asked<A: Allocator, N: Allocator, W: Allocator>(
     text: &mut String<A>,
     names: &Names<N>,
-    node: u16,
-    topic: &Word<W>,
-    key: &Word<W>,
+    question: &Question<W>,
 ) -> Result<(), Oom>
-    ensures { OnOk result (string_bytes text.new ≡ string_bytes text.old ++ asked_words names.now (record { node = node; topic = topic.now; key = key.now })) }
+    ensures { OnOk result (string_bytes text.new ≡ string_bytes text.old ++ asked_words names.now question.now) }
 {
-    let node = name_at(names, node);
-    let topic = topic.as_str();
-    let key = key.as_str();
+    let node = name_at(names, question.node);
+    let topic = question.topic.as_str();
+    let key = question.key.as_str();
     Ok(write!(text, "whatif {node} {topic} {key}")?)
 }
 
@@ -52,15 +49,13 @@ fn put_counts<A: Allocator>(
 fn put_head<A: Allocator, N: Allocator, W: Allocator>(
     text: &mut String<A>,
     names: &Names<N>,
-    node: u16,
-    topic: &Word<W>,
-    key: &Word<W>,
+    question: &Question<W>,
     found: &Differences<W>,
 ) -> Result<(), Oom>
     ensures { OnOk result ((t : Tally) → t.possible ≡ found.now.possible → t.differ ≡ found.now.differ →
-        string_bytes text.new ≡ string_bytes text.old ++ head_line names.now (record { node = node; topic = topic.now; key = key.now }) found.now.tried t) }
+        string_bytes text.new ≡ string_bytes text.old ++ head_line names.now question.now found.now.tried t) }
 {
-    put_asked(text, names, node, topic, key)?;
+    put_asked(text, names, question)?;
     put_counts(text, found.tried, found.possible, found.differ)
 }
 
@@ -82,24 +77,22 @@ fn put_differences<'a, A: Allocator, N: Allocator, B: Allocator>(
 }
 
 /// Appends the whole text: the head, the rows of the recorded run, and each difference. `found` must be what `whatif`
-/// finds for this node, topic and key.
+/// finds for the question.
 fn put_found<'a, A: Allocator, B: Allocator>(
     bench: &Bench<'a, B>,
     text: &mut String<A>,
-    node: u16,
-    topic: &Word<&'a B>,
-    key: &Word<&'a B>,
+    question: &Question<&'a B>,
     found: &Differences<&'a B>,
     alloc: &'a B,
 ) -> Result<(), Oom>
-    requires before { found.now.before.items ≡ rows_before bench.now (record { node = node; topic = topic.now; key = key.now }) }
+    requires before { found.now.before.items ≡ rows_before bench.now question.now }
     requires tried { found.now.tried ≡ length (changes bench.now.state.remaining) }
-    requires possible { found.now.possible ≡ (tally_of bench.now (record { node = node; topic = topic.now; key = key.now })).possible }
-    requires differ { found.now.differ ≡ (tally_of bench.now (record { node = node; topic = topic.now; key = key.now })).differ }
-    requires told { found.now.told.items ≡ (tally_of bench.now (record { node = node; topic = topic.now; key = key.now })).told }
-    ensures { OnOk result (string_bytes text.new ≡ string_bytes text.old ++ whatif_text bench.now (record { node = node; topic = topic.now; key = key.now })) }
+    requires possible { found.now.possible ≡ (tally_of bench.now question.now).possible }
+    requires differ { found.now.differ ≡ (tally_of bench.now question.now).differ }
+    requires told { found.now.told.items ≡ (tally_of bench.now question.now).told }
+    ensures { OnOk result (string_bytes text.new ≡ string_bytes text.old ++ whatif_text bench.now question.now) }
 {
-    put_head(text, bench.names(), node, topic, key, found)?;
+    put_head(text, bench.names(), question, found)?;
     put_rows(text, "= ", bench.names(), found.before.as_slice())?;
     put_differences(
         bench.remaining(),
@@ -111,22 +104,20 @@ fn put_found<'a, A: Allocator, B: Allocator>(
     )
 }
 
-/// What would have made a difference to the rows with this topic and key at the node, as a text. Tells `watch` after
-/// each change how many were tried.
+/// What would have made a difference to the rows of the question, as a text. Tells `watch` after each change how many
+/// were tried.
 pub(crate) fn tell<'a, B: Allocator, W: Watch<Tried>>(
     bench: &Bench<'a, B>,
-    node: u16,
-    topic: &Word<&'a B>,
-    key: &Word<&'a B>,
+    question: &Question<&'a B>,
     alloc: &'a B,
     watch: &mut W,
 ) -> Result<String<&'a B>, Oom>
-    ensures text { IfOk result (λ text. string_bytes text ≡ whatif_text bench.now (record { node = node; topic = topic.now; key = key.now })) }
+    ensures text { IfOk result (λ text. string_bytes text ≡ whatif_text bench.now question.now) }
     ensures watched { Watched W.told watch.old watch.new }
 {
-    let found = whatif(bench, node, topic, key, alloc, watch)?;
+    let found = whatif(bench, question, alloc, watch)?;
     let mut text = String::new(alloc);
-    let put = put_found(bench, &mut text, node, topic, key, &found, alloc);
+    let put = put_found(bench, &mut text, question, &found, alloc);
     // form: drop before exit
     drop(found);
     put?;

@@ -3,7 +3,6 @@ use Rattle.std.specs.Option.{option_map}
 use Rattle.diff_core.specs.Rows.{Row}
 use Rattle.order_core.specs.Orders.{order_of}
 use Rattle.change_core.specs.Changes.{changed}
-use Rattle.change_core.specs.Questions.{Question}
 use Rattle.change_core.specs.Searches.{AreRowsOf, Search}
 use Rattle.change_core.specs.Walks.{steps_in}
 use Rattle.change_core.proofs.Searches.{becomes_last, no_order_after, rows_of_run}
@@ -27,7 +26,7 @@ returns-in_default-2 g c = λ m is s.
 
 pub returns : goal.returns
 returns g c = λ m is s.
-    let q : Question = record { node = c.args.node; topic = c.args.topic.now; key = c.args.key.now } in
+    let q = c.args.question.now in
     let are : AreRowsOf m q c.args.steps.now c.in-Some.run'.items c.rows_of.new.self (Some c.in-Some-2.rows.items) =
     subst (λ (o : Option (List Row)). AreRowsOf m q c.args.steps.now c.in-Some.run'.items c.rows_of.new.self o) (ap (option_map (λ r. r.items)) c.in-Some-2.is)
     (subst (λ l. AreRowsOf m q c.args.steps.now l c.rows_of.new.self (option_map (λ r. r.items) c.in_ok-rows.field-0)) c.as_slice.ensures.value (c.in_ok-rows.ensures m s)) in
