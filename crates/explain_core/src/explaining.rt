@@ -210,20 +210,21 @@ fn put_removal<'a, A: Allocator, B: Allocator>(
     }
 }
 
-/// Appends what `explain` tells of one presence, that of `making`, whose dot has this track.
+/// Appends what `explain` tells of one presence.
 #[tactic(auto, unfolding(crate::specs::Explanations::tracked_text))]
 fn put_tracked<'a, A: Allocator, B: Allocator>(
     bench: &Bench<'a, B>,
     text: &mut String<A>,
     statuses: &[Option<u64>],
     node: u16,
-    making: Making,
-    track: &Track<&'a B>,
+    traced: &Traced<&'a B>,
     alloc: &'a B,
 ) -> Result<(), Oom>
     requires { AreStatuses bench.now.state.remaining node statuses.now }
-    ensures { OnOk result (string_bytes text.new ≡ string_bytes text.old ++ tracked_text bench.now node making track.now) }
+    ensures { OnOk result (string_bytes text.new ≡ string_bytes text.old ++ traced_text bench.now node traced.now) }
 {
+    let making = traced.making;
+    let track = &traced.track;
     put_step(bench, text, "made", making.number)?;
     put_dot(bench, text, making.dot)?;
     put_left(bench, text, making.dot, track)?;
@@ -245,7 +246,7 @@ fn put_traced<'a, A: Allocator, B: Allocator>(
     ensures { OnOk result (string_bytes text.new ≡ string_bytes text.old ++ flat_map (traced_text bench.now node) traced.now) }
 {
     for next in traced {
-        put_tracked(bench, text, statuses, node, next.making, &next.track, alloc)?;
+        put_tracked(bench, text, statuses, node, next, alloc)?;
     }
     Ok(())
 }
@@ -292,21 +293,27 @@ fn put_makings<'a, A: Allocator, B: Allocator>(
     Ok(())
 }
 
+/// What is explained: the presences of a topic and a key at a node.
+#[derive(Drop)]
+struct Asked<'t, A: Allocator> {
+    node: u16,
+    topic: &'t Word<A>,
+    key: &'t Word<A>,
+}
+
 /// Appends `explain NODE TOPIC KEY COUNT`, where COUNT is `count`, the number of presences, and a line feed.
 #[tactic(auto, unfolding(crate::specs::Explanations::head_line))]
 fn put_head<'a, A: Allocator, B: Allocator>(
     bench: &Bench<'a, B>,
     text: &mut String<A>,
-    node: u16,
-    topic: &Word<&'a B>,
-    key: &Word<&'a B>,
+    asked: &Asked<'_, &'a B>,
     count: usize,
 ) -> Result<(), Oom>
-    ensures { OnOk result (string_bytes text.new ≡ string_bytes text.old ++ head_line bench.now node topic.now key.now count) }
+    ensures { OnOk result (string_bytes text.new ≡ string_bytes text.old ++ head_line bench.now asked.now.node asked.now.topic.now asked.now.key.now count) }
 {
-    let node = name_at(bench.names(), node);
-    let topic = topic.as_str();
-    let key = key.as_str();
+    let node = name_at(bench.names(), asked.node);
+    let topic = asked.topic.as_str();
+    let key = asked.key.as_str();
     // form: a `writeln!` split in two, which the proof takes one by one
     write!(text, "explain {node} {topic}")?;
     Ok(writeln!(text, " {key} {count}")?)
@@ -316,17 +323,16 @@ fn put_head<'a, A: Allocator, B: Allocator>(
 fn put_explanation<'a, A: Allocator, B: Allocator>(
     bench: &Bench<'a, B>,
     text: &mut String<A>,
-    node: u16,
-    topic: &Word<&'a B>,
-    key: &Word<&'a B>,
+    asked: &Asked<'_, &'a B>,
     makings: &[Making],
     alloc: &'a B,
 ) -> Result<(), Oom>
     ensures { OnOk result (string_bytes text.new ≡ string_bytes text.old ++
-        (head_line bench.now node topic.now key.now (length makings.now) ++ making_texts bench.now node makings.now)) }
+        (head_line bench.now asked.now.node asked.now.topic.now asked.now.key.now (length makings.now)
+        ++ making_texts bench.now asked.now.node makings.now)) }
 {
-    put_head(bench, text, node, topic, key, makings.len())?;
-    put_makings(bench, text, node, makings, alloc)
+    put_head(bench, text, asked, makings.len())?;
+    put_makings(bench, text, asked.node, makings, alloc)
 }
 
 /// Tells why the presences of a topic and key are online at a node, or why not. The first line says how many of them
@@ -346,7 +352,8 @@ pub fn explain<'a, B: Allocator>(
 {
     let makings = makings_of(bench, topic, key, alloc)?;
     let mut text = String::new(alloc);
-    let put = put_explanation(bench, &mut text, node, topic, key, &makings, alloc);
+    let asked = Asked { node, topic, key };
+    let put = put_explanation(bench, &mut text, &asked, &makings, alloc);
     // form: drop before exit
     drop(makings);
     put?;

@@ -107,22 +107,22 @@ fn delivered_hop<A: Allocator>(
     }
 }
 
-/// Like `delivered_hop`, but looks up the step that sent the message, and only if the delivery has a hop.
+/// Like `delivered_hop`, but looks up the step that sent the message, which is given by its sender and its number, and
+/// only if the delivery has a hop.
 fn received_hop<A: Allocator>(
     kept: &Kept<A>,
     hops: &[Hop],
     before: Stand,
     told: Standing,
     now: Standing,
-    sender: u16,
-    message: u64,
+    message: (u16, u64),
 ) -> Option<Hop>
-    ensures { result ≡ delivered_hop kept.now before told now (sender_among hops.now sender message) }
+    ensures { result ≡ delivered_hop kept.now before told now (sender_among hops.now message.0 message.1) }
 {
     if before.standing.is_same(now) && !told.is_above(now) {
         return None;
     }
-    let reads = sender_among(hops, sender, message);
+    let reads = sender_among(hops, message.0, message.1);
     delivered_hop(kept, before, told, now, reads)
 }
 
@@ -158,9 +158,9 @@ fn hop_at<'a, B: Allocator>(
     }
     match kept.step.delivers() {
         None => other_hop(kept, before, now),
-        Some((sender, message)) => {
-            let told = standing_sent(asked, sender, message, dot);
-            received_hop(kept, hops, before, told, now, sender, message)
+        Some(message) => {
+            let told = standing_sent(asked, message.0, message.1, dot);
+            received_hop(kept, hops, before, told, now, message)
         }
     }
 }

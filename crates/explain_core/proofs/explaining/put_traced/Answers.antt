@@ -11,7 +11,7 @@ loop-next-preserved g c =
     let i = c.loop-next.next-index in
     let t : Traced = get_or c.args.traced.now i c.next-item.result in
     c.in_ok-put_tracked.ensures
-    ∙ ap (λ (t : Traced). string_bytes c.loop-next.text ++ traced_text m c.args.node t) (c.next.view_is ∙ c.next-item.is)
+    ∙ ap (λ (t : Traced). string_bytes c.loop-next.text ++ traced_text m c.args.node t) c.next-item.is
     ∙ ap (λ l. l ++ traced_text m c.args.node t) c.loop-next.invariant
     ∙ flat_map_more (traced_text m c.args.node) (string_bytes c.args.text.now) (take i c.args.traced.now) t
     ∙ ap (λ ts. string_bytes c.args.text.now ++ flat_map (traced_text m c.args.node) ts) (sym (take_more c.args.traced.now i c.next-item.result c.loop-next-test.true))
