@@ -1,5 +1,5 @@
 -- The node that a call changed, and what it changed of it.
-use Rattle.std.proofs.Common.{◌≡◌, ℕ, false, if◌then◌else◌, List, [], ◌++◌, length, Option, Some, None, refl, sym, ap, ◌∙◌, subst}
+use Rattle.std.proofs.Common.{◌≡◌, ℕ, false, if◌then◌else◌, List, [], ◌++◌, Option, Some, None, refl, sym, ap, ◌∙◌, subst}
 use Rattle.bench_core.specs.Acts.{Action}
 use Rattle.bench_core.specs.Machine.{Event, Machine}
 use Rattle.bench_core.specs.NameList.{Texts}
@@ -120,19 +120,18 @@ module _ (m next : Machine) (seen e : Event) (same : seen ≡ e) (reply : Reply)
           changed_node m e.actor e.act reply undone changed said_e (of ∙ ap (λ (x : Event). node_undone m (asked_undo m x.act)) same)
           (at ∙ ap (λ (x : Event). node_changed x.actor reply undone) same)
 
-      pub told_row : (steps : List Drawn) (range : Range) (consoles : Texts) (row : ℕ) (old new : List ℕ) →
-          new ≡ old ++ text_of (row_if (length next.names) steps range changed row e
+      pub told_row : (nodes : ℕ) (steps : List Drawn) (range : Range) (consoles : Texts) (row : ℕ) (old new : List ℕ) →
+          new ≡ old ++ text_of (row_if nodes steps range changed row e
           (title_told next.names consoles e (acted_text next.names reply left joined)) (words_told next.names consoles e left joined)) →
-          new ≡ old ++ text_of (row_of (length m.names) steps range consoles m row e)
+          new ≡ old ++ text_of (row_of nodes steps range consoles m row e)
       unfolding row_of
-      told_row steps range consoles row old new is =
+      told_row nodes steps range consoles row old new is =
           let title = title_told next.names consoles e (acted_text next.names reply left joined) in
           let words = words_told next.names consoles e left joined in
           is
-          ∙ ap (λ (names : Texts). old ++ text_of (row_if (length names) steps range changed row e title words)) (names_stay m next e.actor e.act done_e)
-          ∙ ap (λ (c : Option ℕ). old ++ text_of (row_if (length m.names) steps range c row e title words)) at_e
-          ∙ ap (λ t. old ++ text_of (row_if (length m.names) steps range (changed_by m e.actor e.act) row e t words)) (title_is consoles)
-          ∙ ap (λ w. old ++ text_of (row_if (length m.names) steps range (changed_by m e.actor e.act) row e (title_of m consoles e) w)) (words_are consoles)
+          ∙ ap (λ (c : Option ℕ). old ++ text_of (row_if nodes steps range c row e title words)) at_e
+          ∙ ap (λ t. old ++ text_of (row_if nodes steps range (changed_by m e.actor e.act) row e t words)) (title_is consoles)
+          ∙ ap (λ w. old ++ text_of (row_if nodes steps range (changed_by m e.actor e.act) row e (title_of m consoles e) w)) (words_are consoles)
 
       pub told_switch : (asked : Option Asked) (row : ℕ) (old new : List Switch) →
           ((before : List Row) → left ≡ alone before (rows_of next changed) → joined ≡ alone (rows_of next changed) before →

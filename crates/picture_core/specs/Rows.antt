@@ -1,5 +1,6 @@
 -- What is drawn of each recorded call, in the order of the history.
 use Rattle.std.specs.Prelude.{ℕ, ◌+◌, nat_lt, nat_le, ◌&&◌, if◌then◌else◌, Bool, List, [], ◌∷◌, length, Option, Some, None}
+use Rattle.grammar_core.specs.Grammar.{longest_line}
 use Rattle.node_core.specs.Operations.{Operation, delivers}
 use Rattle.journal_core.specs.Journals.{Kept, sender_of}
 use Rattle.bench_core.specs.Acts.{Action, Do, Undo, Back}
@@ -128,7 +129,7 @@ rows_from nodes steps range consoles asked row (e ∷ events) =
 
 -- the most bytes that the words of a drawn row have, and at least `longest`; a line of a script has at most 4,096
 abbrev pub cut_length : ℕ → ℕ
-cut_length bytes = if nat_lt 4096 bytes then 4096 else bytes
+cut_length bytes = if nat_lt longest_line bytes then longest_line else bytes
 
 unfoldable pub with_length : ℕ → ℕ → ℕ
 with_length longest bytes = if nat_lt longest (cut_length bytes) then cut_length bytes else longest

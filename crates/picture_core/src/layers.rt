@@ -1,5 +1,6 @@
 //! Draws all recorded calls.
 ghost use Rattle.std.specs.Prelude.{◌≡◌, ◌≤◌, ◌++◌, List, IfOk, OnOk, length, option_copied, string_bytes};
+ghost use Rattle.bench_core.specs.Limits.{most_acts};
 ghost use Rattle.diff_core.specs.Diffs.{alone};
 ghost use Rattle.diff_core.specs.Rows.{Row};
 ghost use Rattle.report_core.specs.ActRows.{acted_text};
@@ -15,6 +16,7 @@ use crate::online::{Asked, Switch, note_switch};
 use crate::range::Range;
 use crate::rows::{lane_of, node_changed, node_undone, put_message_of, put_row};
 use crate::shade::Drawn;
+use crate::sheet::Sheet;
 use crate::words::{title_of, words_of};
 use bench_core::{Bench, Event, History, Names, TextSet};
 use payload_core::Oom;
@@ -48,37 +50,33 @@ pub fn with_length(longest: u32, bytes: usize) -> u32
 fn put_drawn<'a, N: Allocator, B: Allocator>(
     layers: &mut Layers<'a, B>,
     names: &Names<N>,
-    consoles: &TextSet<&'a B>,
-    steps: &[Drawn],
+    sheet: &Sheet<'a, '_, B>,
     changed: Option<u16>,
     row: u32,
     event: &Event<&'a B>,
     acted: &Acted<&'a B>,
-    alloc: &'a B,
 ) -> Result<(), Oom>
     ensures rows { OnOk result (string_bytes layers.new.rows ≡ string_bytes layers.old.rows ++
-        text_of (row_told (length names.now) steps.now changed row event.now
-        (title_told names.now consoles.now event.now (acted_text names.now acted.now.reply acted.now.change.left.items acted.now.change.joined.items))
-        (words_told names.now consoles.now event.now acted.now.change.left.items acted.now.change.joined.items))) }
+        text_of (row_told sheet.now.nodes sheet.now.steps.now changed row event.now
+        (title_told names.now sheet.now.consoles.now event.now
+        (acted_text names.now acted.now.reply acted.now.change.left.items acted.now.change.joined.items))
+        (words_told names.now sheet.now.consoles.now event.now acted.now.change.left.items acted.now.change.joined.items))) }
     ensures longest { OnOk result (layers.new.longest ≡ with_length layers.old.longest
-        (length (words_told names.now consoles.now event.now acted.now.change.left.items acted.now.change.joined.items))) }
+        (length (words_told names.now sheet.now.consoles.now event.now acted.now.change.left.items acted.now.change.joined.items))) }
     ensures messages { layers.new.messages ≡ layers.old.messages }
     ensures switches { layers.new.switches ≡ layers.old.switches }
 {
-    let nodes = names.len() as u32;
-    let lane = lane_of(nodes, event.actor, event.reply, changed);
-    let title = title_of(event, names, consoles, acted, alloc)?;
-    let words = words_of(event, names, consoles, acted, alloc)?;
+    let lane = lane_of(sheet.nodes, event.actor, event.reply, changed);
+    let title = title_of(event, names, sheet.consoles, acted, sheet.alloc)?;
+    let words = words_of(event, names, sheet.consoles, acted, sheet.alloc)?;
     put_row(
         &mut layers.rows,
-        nodes,
-        steps,
+        sheet,
         lane,
         row,
         event.reply,
         &title,
         &words,
-        alloc,
     )?;
     layers.longest = with_length(layers.longest, words.len());
     Ok(())
@@ -91,51 +89,37 @@ fn put_drawn<'a, N: Allocator, B: Allocator>(
 fn put_told<'a, B: Allocator>(
     asked: &Bench<'a, B>,
     layers: &mut Layers<'a, B>,
-    consoles: &TextSet<&'a B>,
-    steps: &[Drawn],
-    range: Range,
-    of: Option<&Asked<&'a B>>,
+    sheet: &Sheet<'a, '_, B>,
     changed: Option<u16>,
     row: u32,
     event: &Event<&'a B>,
     acted: &Acted<&'a B>,
-    alloc: &'a B,
 ) -> Result<(), Oom>
     ensures rows { OnOk result (string_bytes layers.new.rows ≡ string_bytes layers.old.rows ++
-        text_of (row_if (length asked.now.names) steps.now range changed row event.now
-        (title_told asked.now.names consoles.now event.now
+        text_of (row_if sheet.now.nodes sheet.now.steps.now sheet.now.range changed row event.now
+        (title_told asked.now.names sheet.now.consoles.now event.now
         (acted_text asked.now.names acted.now.reply acted.now.change.left.items acted.now.change.joined.items))
-        (words_told asked.now.names consoles.now event.now acted.now.change.left.items acted.now.change.joined.items))) }
-    ensures longest { OnOk result (layers.new.longest ≡ with_words range row
-        (words_told asked.now.names consoles.now event.now acted.now.change.left.items acted.now.change.joined.items) layers.old.longest) }
+        (words_told asked.now.names sheet.now.consoles.now event.now acted.now.change.left.items acted.now.change.joined.items))) }
+    ensures longest { OnOk result (layers.new.longest ≡ with_words sheet.now.range row
+        (words_told asked.now.names sheet.now.consoles.now event.now acted.now.change.left.items acted.now.change.joined.items) layers.old.longest) }
     ensures messages { layers.new.messages ≡ layers.old.messages }
     ensures switches { OnOk result ((before : List Row) → acted.now.change.left.items ≡ alone before (rows_of asked.now changed) →
         acted.now.change.joined.items ≡ alone (rows_of asked.now changed) before →
-        layers.new.switches.items ≡ layers.old.switches.items ++ switch_at (option_copied of.entry) row changed before (rows_of asked.now changed)) }
+        layers.new.switches.items ≡ layers.old.switches.items ++ switch_at (option_copied sheet.now.of) row changed before (rows_of asked.now changed)) }
 {
     note_switch(
         asked,
         &mut layers.switches,
-        of,
+        sheet.of,
         row,
         changed,
         &acted.change,
-        alloc,
+        sheet.alloc,
     )?;
-    if !range.draws(row) {
+    if !sheet.range.draws(row) {
         return Ok(());
     }
-    put_drawn(
-        layers,
-        asked.names(),
-        consoles,
-        steps,
-        changed,
-        row,
-        event,
-        acted,
-        alloc,
-    )
+    put_drawn(layers, asked.names(), sheet, changed, row, event, acted)
 }
 
 /// Makes a recorded call on the bench `asked`, and draws in `layers` what `range` shows of the call. Also notes in
@@ -143,39 +127,23 @@ fn put_told<'a, B: Allocator>(
 fn put_event<'a, B: Allocator>(
     asked: &mut Bench<'a, B>,
     layers: &mut Layers<'a, B>,
-    consoles: &TextSet<&'a B>,
-    steps: &[Drawn],
-    range: Range,
-    of: Option<&Asked<&'a B>>,
+    sheet: &Sheet<'a, '_, B>,
     row: u32,
     event: &Event<&'a B>,
-    alloc: &'a B,
 ) -> Result<(), Oom>
     ensures asked { OnOk result (asked.new ≡ after_act asked.old event.now.actor event.now.act) }
     ensures messages { OnOk result (string_bytes layers.new.messages ≡ string_bytes layers.old.messages ++
-        text_of (message_of (length asked.old.names) steps.now range asked.old.state.remaining row event.now)) }
+        text_of (message_of sheet.now.nodes sheet.now.steps.now sheet.now.range asked.old.state.remaining row event.now)) }
     ensures rows { OnOk result (string_bytes layers.new.rows ≡ string_bytes layers.old.rows ++
-        text_of (row_of (length asked.old.names) steps.now range consoles.now asked.old row event.now)) }
-    ensures longest { OnOk result (layers.new.longest ≡ with_row range consoles.now asked.old row event.now layers.old.longest) }
-    ensures switches { OnOk result (layers.new.switches.items ≡ with_call (option_copied of.entry) asked.old row event.now layers.old.switches.items) }
+        text_of (row_of sheet.now.nodes sheet.now.steps.now sheet.now.range sheet.now.consoles.now asked.old row event.now)) }
+    ensures longest { OnOk result (layers.new.longest ≡ with_row sheet.now.range sheet.now.consoles.now asked.old row event.now layers.old.longest) }
+    ensures switches { OnOk result (layers.new.switches.items ≡ with_call (option_copied sheet.now.of) asked.old row event.now layers.old.switches.items) }
 {
-    let nodes = asked.names().len() as u32;
-    put_message_of(
-        asked.remaining(),
-        &mut layers.messages,
-        nodes,
-        steps,
-        range,
-        row,
-        event,
-        alloc,
-    )?;
+    put_message_of(asked.remaining(), &mut layers.messages, sheet, row, event)?;
     let undone = node_undone(asked, &event.act);
-    let acted = ask(asked, alloc, event.actor, &event.act)?;
+    let acted = ask(asked, sheet.alloc, event.actor, &event.act)?;
     let changed = node_changed(event.actor, acted.reply, undone);
-    let told = put_told(
-        asked, layers, consoles, steps, range, of, changed, row, event, &acted, alloc,
-    );
+    let told = put_told(asked, layers, sheet, changed, row, event, &acted);
     // form: drop before exit
     drop(acted);
     told
@@ -186,33 +154,19 @@ fn put_events<'a, B: Allocator>(
     asked: &mut Bench<'a, B>,
     history: &History<'a, B>,
     layers: &mut Layers<'a, B>,
-    consoles: &TextSet<&'a B>,
-    steps: &[Drawn],
-    range: Range,
-    of: Option<&Asked<&'a B>>,
-    alloc: &'a B,
+    sheet: &Sheet<'a, '_, B>,
 ) -> Result<(), Oom>
-    requires { length history.now ≤ 1000000 }
+    requires { length history.now ≤ most_acts }
     ensures messages { OnOk result (string_bytes layers.new.messages ≡ string_bytes layers.old.messages ++
-        text_of (messages_from (length asked.old.names) steps.now range asked.old 0 history.now)) }
+        text_of (messages_from sheet.now.nodes sheet.now.steps.now sheet.now.range asked.old 0 history.now)) }
     ensures rows { OnOk result (string_bytes layers.new.rows ≡ string_bytes layers.old.rows ++
-        text_of (rows_from (length asked.old.names) steps.now range consoles.now asked.old 0 history.now)) }
-    ensures longest { OnOk result (layers.new.longest ≡ longest_from range consoles.now asked.old 0 history.now layers.old.longest) }
-    ensures switches { OnOk result (layers.new.switches.items ≡ switches_from (option_copied of.entry) asked.old 0 history.now layers.old.switches.items) }
+        text_of (rows_from sheet.now.nodes sheet.now.steps.now sheet.now.range sheet.now.consoles.now asked.old 0 history.now)) }
+    ensures longest { OnOk result (layers.new.longest ≡ longest_from sheet.now.range sheet.now.consoles.now asked.old 0 history.now layers.old.longest) }
+    ensures switches { OnOk result (layers.new.switches.items ≡ switches_from (option_copied sheet.now.of) asked.old 0 history.now layers.old.switches.items) }
 {
     for place in 0..history.len() {
         let event = history.at(place).unwrap();
-        put_event(
-            asked,
-            layers,
-            consoles,
-            steps,
-            range,
-            of,
-            place as u32,
-            event,
-            alloc,
-        )?;
+        put_event(asked, layers, sheet, place as u32, event)?;
     }
     Ok(())
 }
@@ -243,16 +197,15 @@ pub fn layers_of<'a, B: Allocator>(
         longest: 0,
         switches: Vec::new(alloc),
     };
-    let drawn = put_events(
-        &mut asked,
-        bench.history(),
-        &mut layers,
-        consoles,
+    let sheet = Sheet {
+        nodes: bench.names().len() as u32,
         steps,
         range,
+        consoles,
         of,
         alloc,
-    );
+    };
+    let drawn = put_events(&mut asked, bench.history(), &mut layers, &sheet);
     // form: drop before exit
     asked.discard();
     drawn?;

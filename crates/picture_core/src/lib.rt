@@ -6,8 +6,8 @@
 //!
 //! The modules in reading order: `plan`, where things stand; `shade`, whether a step remains, and `kind`, how a call
 //! looks; `shapes`, a lane, a message, a mark, words; `range`, which rows are drawn; `words`, the words of a row;
-//! `online`, where lanes are thick; `rows`, what is drawn of one recorded call, and `layers`, what is drawn of all;
-//! `picture`, the whole picture; `view`, what is asked for; `draw_fault`, why nothing is drawn.
+//! `online`, where lanes are thick; `sheet`, what is drawn; `rows`, the drawing of one recorded call, and `layers`,
+//! that of all; `picture`, the whole picture; `view`, what is asked for; `draw_fault`, why nothing is drawn.
 #![tactic(auto)]
 
 mod draw_fault;
@@ -20,6 +20,7 @@ mod range;
 mod rows;
 mod shade;
 mod shapes;
+mod sheet;
 mod view;
 mod words;
 

@@ -8,9 +8,9 @@ ghost use Rattle.report_core.specs.StepDiffs.{asked_undo};
 ghost use Rattle.picture_core.specs.Rows.{lane_of, looks, mark_at, message_between, message_of, message_to, node_changed, node_undone, number_by, row_tree};
 
 use crate::kind::Kind;
-use crate::range::Range;
 use crate::shade::{Drawn, step_at};
-use crate::shapes::{put_mark, put_message, put_number_label, put_words_label};
+use crate::shapes::{Arrow, put_mark, put_message, put_number_label, put_words_label};
+use crate::sheet::Sheet;
 use bench_core::{Act, Bench, Event, Journal, Reply, Step};
 use payload_core::Oom;
 use report_core::{asked_undo, node_of_step};
@@ -18,40 +18,33 @@ use std::alloc::Allocator;
 use transcript_core::sender_of;
 
 /// Appends the message from step `source` of the node `sender` to step `number`, whose row and node are `to`. Appends
-/// nothing if the range doesn't show the message.
+/// nothing if the sheet's range doesn't show the message.
 #[tactic(auto, using(crate::proofs::Texts::nothing_end))]
 fn put_between<'a, A: Allocator, B: Allocator>(
     text: &mut String<A>,
-    nodes: u32,
-    steps: &[Drawn],
-    range: Range,
+    sheet: &Sheet<'a, '_, B>,
     to: (u32, u16),
     number: u64,
     sender: u16,
     source: u64,
-    alloc: &'a B,
 ) -> Result<(), Oom>
     ensures { OnOk result (string_bytes text.new ≡ string_bytes text.old ++
-        text_of (message_between nodes steps.now range to.0 number to.1 sender (Some source))) }
+        text_of (message_between sheet.now.nodes sheet.now.steps.now sheet.now.range to.0 number to.1 sender (Some source))) }
 {
-    let sent = step_at(steps, source);
-    let taken = step_at(steps, number);
+    let sent = step_at(sheet.steps, source);
+    let taken = step_at(sheet.steps, number);
     let (row, node) = to;
-    if !range.shows(sent.row, row) {
+    if !sheet.range.shows(sent.row, row) {
         return Ok(());
     }
     let kind = Kind::of(taken.shade.of_message(sent.shade));
-    let from = (sent.row, u32::from(sender));
-    put_message(
-        text,
-        nodes,
-        kind,
-        from,
-        (row, u32::from(node)),
+    let arrow = Arrow {
+        from: (sent.row, u32::from(sender)),
+        to: (row, u32::from(node)),
         source,
         number,
-        alloc,
-    )
+    };
+    put_message(text, sheet.nodes, kind, arrow, sheet.alloc)
 }
 
 /// Appends the message that a step delivers, if it delivers one and the range shows the message. `to` is the row and
@@ -60,16 +53,13 @@ fn put_between<'a, A: Allocator, B: Allocator>(
 fn put_message_to<'a, A: Allocator, B: Allocator>(
     remaining: &Journal<'a, B>,
     text: &mut String<A>,
-    nodes: u32,
-    steps: &[Drawn],
-    range: Range,
+    sheet: &Sheet<'a, '_, B>,
     to: (u32, u16),
     number: u64,
     step: &Step<&'a B>,
-    alloc: &'a B,
 ) -> Result<(), Oom>
     ensures { OnOk result (string_bytes text.new ≡ string_bytes text.old ++
-        text_of (message_to nodes steps.now range to.0 number to.1 (kepts remaining.now.steps) (plain step.now))) }
+        text_of (message_to sheet.now.nodes sheet.now.steps.now sheet.now.range to.0 number to.1 (kepts remaining.now.steps) (plain step.now))) }
 {
     let Some((sender, message)) = step.delivers() else {
         return Ok(());
@@ -77,7 +67,7 @@ fn put_message_to<'a, A: Allocator, B: Allocator>(
     let Some(source) = sender_of(remaining, sender, message) else {
         return Ok(());
     };
-    put_between(text, nodes, steps, range, to, number, sender, source, alloc)
+    put_between(text, sheet, to, number, sender, source)
 }
 
 /// Appends the message that the step of a recorded call delivers. Appends nothing if the call took no step, its step
@@ -86,23 +76,18 @@ fn put_message_to<'a, A: Allocator, B: Allocator>(
 pub fn put_message_of<'a, A: Allocator, B: Allocator>(
     remaining: &Journal<'a, B>,
     text: &mut String<A>,
-    nodes: u32,
-    steps: &[Drawn],
-    range: Range,
+    sheet: &Sheet<'a, '_, B>,
     row: u32,
     event: &Event<&'a B>,
-    alloc: &'a B,
 ) -> Result<(), Oom>
     ensures { OnOk result (string_bytes text.new ≡ string_bytes text.old ++
-        text_of (message_of nodes steps.now range (kepts remaining.now.steps) row event.now)) }
+        text_of (message_of sheet.now.nodes sheet.now.steps.now sheet.now.range (kepts remaining.now.steps) row event.now)) }
 {
     match event.reply {
         Reply::Taken(number) => match &event.act {
             Act::Do(step) => {
                 let to = (row, event.actor);
-                put_message_to(
-                    remaining, text, nodes, steps, range, to, number, step, alloc,
-                )
+                put_message_to(remaining, text, sheet, to, number, step)
             }
             Act::Undo(_) | Act::Back(_) => Ok(()),
         },
@@ -197,19 +182,18 @@ fn put_number_by<A: Allocator>(text: &mut String<A>, row: u32, reply: Reply) -> 
 /// `lane`, unless that is `None`; and the words.
 pub fn put_row<'a, A: Allocator, B: Allocator>(
     text: &mut String<A>,
-    nodes: u32,
-    steps: &[Drawn],
+    sheet: &Sheet<'a, '_, B>,
     lane: Option<u16>,
     row: u32,
     reply: Reply,
     title: &str,
     words: &str,
-    alloc: &'a B,
 ) -> Result<(), Oom>
-    ensures { OnOk result (string_bytes text.new ≡ string_bytes text.old ++ text_of (row_tree nodes steps.now lane row reply title.now words.now)) }
+    ensures { OnOk result (string_bytes text.new ≡ string_bytes text.old ++
+        text_of (row_tree sheet.now.nodes sheet.now.steps.now lane row reply title.now words.now)) }
 {
-    let kind = looks(steps, reply);
+    let kind = looks(sheet.steps, reply);
     put_number_by(text, row, reply)?;
-    put_mark_at(text, nodes, row, kind, title, lane, alloc)?;
-    put_words_label(text, nodes, row, kind, words)
+    put_mark_at(text, sheet.nodes, row, kind, title, lane, sheet.alloc)?;
+    put_words_label(text, sheet.nodes, row, kind, words)
 }

@@ -231,23 +231,30 @@ fn message_class(kind: Kind) -> &'static str
     }
 }
 
-/// Appends a message from the step `source` to the step `number`. `from` is the row and the node of `source`, `to`
-/// those of `number`.
+/// A message from the step `source` to the step `number`. `from` is the row and the node of `source`, `to` those of
+/// `number`.
+#[derive(Clone, Copy)]
+pub struct Arrow {
+    pub from: (u32, u32),
+    pub to: (u32, u32),
+    pub source: u64,
+    pub number: u64,
+}
+
+/// Appends a message.
 #[tactic(auto, unfolding(crate::specs::Shapes::message))]
 pub fn put_message<'a, A: Allocator, B: Allocator>(
     text: &mut String<A>,
     nodes: u32,
     kind: Kind,
-    from: (u32, u32),
-    to: (u32, u32),
-    source: u64,
-    number: u64,
+    arrow: Arrow,
     alloc: &'a B,
 ) -> Result<(), Oom>
-    ensures { OnOk result (string_bytes text.new ≡ string_bytes text.old ++ text_of (message nodes kind from to source number)) }
+    ensures { OnOk result (string_bytes text.new ≡ string_bytes text.old ++
+        text_of (message nodes kind arrow.from arrow.to arrow.source arrow.number)) }
 {
-    let path = message_path(nodes, from, to, source, alloc)?;
-    let title = message_title(source, number, alloc)?;
+    let path = message_path(nodes, arrow.from, arrow.to, arrow.source, alloc)?;
+    let title = message_title(arrow.source, arrow.number, alloc)?;
     put_titled_path(text, message_class(kind), path.as_str(), title.as_str())
 }
 

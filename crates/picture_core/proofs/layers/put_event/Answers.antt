@@ -14,7 +14,7 @@ returns-clause-rows g c =
     on_ok_weaker c.put_told-told.result
     (told_row c.args.asked.now c.ask.new.bench seen c.args.event.now c.event.view_is acted.reply acted.change.left.items acted.change.joined.items
     is.bench is.reply is.left is.joined c.node_undone-undone.result c.node_changed-changed.result c.node_undone-undone.ensures
-    c.node_changed-changed.ensures c.args.steps.now c.args.range c.args.consoles.now c.args.row (string_bytes c.args.layers.now.rows)
+    c.node_changed-changed.ensures c.args.sheet.now.nodes c.args.sheet.now.steps.now c.args.sheet.now.range c.args.sheet.now.consoles.now c.args.row (string_bytes c.args.layers.now.rows)
     (string_bytes c.put_told-told.new.layers.rows))
     c.put_told-told.ensures.rows
 
@@ -25,7 +25,7 @@ returns-clause-longest g c =
     let is = c.in_ok-acted.ensures in
     on_ok_weaker c.put_told-told.result
     (told_longest c.args.asked.now c.ask.new.bench seen c.args.event.now c.event.view_is acted.reply acted.change.left.items
-    acted.change.joined.items is.bench is.reply is.left is.joined c.args.range c.args.consoles.now c.args.row c.args.layers.now.longest
+    acted.change.joined.items is.bench is.reply is.left is.joined c.args.sheet.now.range c.args.sheet.now.consoles.now c.args.row c.args.layers.now.longest
     c.put_told-told.new.layers.longest)
     c.put_told-told.ensures.longest
 
@@ -37,5 +37,5 @@ returns-clause-switches g c =
     on_ok_weaker c.put_told-told.result
     (told_switch c.args.asked.now c.ask.new.bench seen c.args.event.now c.event.view_is acted.reply acted.change.left.items acted.change.joined.items
     is.bench is.reply is.left is.joined c.node_undone-undone.result c.node_changed-changed.result c.node_undone-undone.ensures
-    c.node_changed-changed.ensures (option_copied c.args.of) c.args.row c.args.layers.now.switches.items c.put_told-told.new.layers.switches.items)
+    c.node_changed-changed.ensures (option_copied c.args.sheet.now.of) c.args.row c.args.layers.now.switches.items c.put_told-told.new.layers.switches.items)
     c.put_told-told.ensures.switches

@@ -1,9 +1,5 @@
-use Rattle.std.proofs.Common.{◌≡◌, ◌∙◌, ◌++◌, ◌<◌, Some, ap, arith, length, rules, string_bytes}
+use Rattle.std.proofs.Common.{◌≡◌, ◌<◌, Some, arith, length, rules, string_bytes}
 use Rattle.std.specs.Prelude.{option_copied, slice_get}
-use Rattle.bench_core.specs.NameList.{Texts}
-use Rattle.svg_core.specs.Trees.{text_of}
-use Rattle.picture_core.specs.Rows.{message_of, row_of}
-use Rattle.picture_core.proofs.Changed.{names_stay}
 use Rattle.picture_core.proofs.Walks.{longest_all, longest_more, messages_all, messages_more, rows_all, rows_more, switches_all, switches_more}
 use Rattle.picture_core.proofs.layers.put_events.Goals as goal
 
@@ -14,11 +10,11 @@ loop-place-preserved g c =
     let events = c.args.history.now in
     let i = c.loop-place.place in
     let e = c.unwrap-event.result.now in
-    let steps = c.args.steps.now in
-    let range = c.args.range in
-    let consoles = c.args.consoles.now in
-    let of = option_copied c.args.of in
-    let nodes = length c.args.asked.now.names in
+    let steps = c.args.sheet.now.steps.now in
+    let range = c.args.sheet.now.range in
+    let consoles = c.args.sheet.now.consoles.now in
+    let of = option_copied c.args.sheet.now.of in
+    let nodes = c.args.sheet.now.nodes in
     let old = c.loop-place.layers in
     let new = c.put_event.new.layers in
     let was = c.loop-place.invariant in
@@ -26,13 +22,10 @@ loop-place-preserved g c =
     let inside : i < length events = omega arith in
     let at : slice_get events i ≡ Some e = search rules in
     record {
-      messages = messages_more nodes steps range m next events i e _ (string_bytes old.messages) (string_bytes new.messages) inside was.messages at is.asked
-          (is.messages ∙ ap (λ (names : Texts). string_bytes old.messages ++ text_of (message_of (length names) steps range m.state.remaining i e)) was.names);
-      rows = rows_more nodes steps range consoles m next events i e _ (string_bytes old.rows) (string_bytes new.rows) inside was.rows at is.asked
-          (is.rows ∙ ap (λ (names : Texts). string_bytes old.rows ++ text_of (row_of (length names) steps range consoles m i e)) was.names);
+      messages = messages_more nodes steps range m next events i e _ (string_bytes old.messages) (string_bytes new.messages) inside was.messages at is.asked is.messages;
+      rows = rows_more nodes steps range consoles m next events i e _ (string_bytes old.rows) (string_bytes new.rows) inside was.rows at is.asked is.rows;
       longest = longest_more range consoles m next events i e _ old.longest new.longest inside was.longest at is.asked is.longest;
       switches = switches_more of m next events i e _ old.switches.items new.switches.items inside was.switches at is.asked is.switches;
-      names = names_stay m next e.actor e.act is.asked ∙ was.names;
     }
 
 pub returns-clause-messages : goal.returns-clause-messages

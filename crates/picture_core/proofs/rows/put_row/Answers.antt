@@ -10,7 +10,7 @@ pub returns : goal.returns
 returns g c =
     let two = then_text _ _ _ _ _ c.in_ok-put_number_by.ensures c.in_ok-put_mark_at.ensures in
     on_ok_weaker c.put_words_label.result
-    (λ last. is_put _ _ _ _ (row_text c.args.nodes c.args.steps.now c.args.lane c.args.row c.args.reply c.args.title.now c.args.words.now)
+    (λ last. is_put _ _ _ _ (row_text c.args.sheet.now.nodes c.args.sheet.now.steps.now c.args.lane c.args.row c.args.reply c.args.title.now c.args.words.now)
     (then_text _ _ _ _ _ two last
-    ∙ ap (λ kind. string_bytes c.args.text.now ++ (text_of (number_by c.args.row c.args.reply) ++ text_of (mark_at c.args.nodes c.args.row kind c.args.title.now c.args.lane) ++ text_of (words_label c.args.nodes c.args.row kind c.args.words.now)))
+    ∙ ap (λ kind. string_bytes c.args.text.now ++ (text_of (number_by c.args.row c.args.reply) ++ text_of (mark_at c.args.sheet.now.nodes c.args.row kind c.args.title.now c.args.lane) ++ text_of (words_label c.args.sheet.now.nodes c.args.row kind c.args.words.now)))
     c.looks-kind.ensures)) c.put_words_label.ensures
