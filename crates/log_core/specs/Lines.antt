@@ -18,19 +18,19 @@ is_space byte = (byte == 32) || (byte == 9) || (byte == 13)
 abbrev pub is_blank : List ℕ → Bool
 is_blank line = list_all is_space line
 
--- the most bytes that a line may have, without its line feed
-abbrev pub longest_line : ℕ
-longest_line = 1048576
+-- the most bytes that the line of an event may have, without its line feed
+abbrev pub longest_event : ℕ
+longest_event = 1048576
 
 -- the line has this value; a blank line has none
 abbrev pub IsValueOf : List ℕ → Option Data → Type 0
-IsValueOf line None = (length line ≤ longest_line) × (is_blank line ≡ true)
-IsValueOf line (Some d) = (length line ≤ longest_line) × (is_blank line ≡ false) × IsUtf8 line × (read line ≡ Some d)
+IsValueOf line None = (length line ≤ longest_event) × (is_blank line ≡ true)
+IsValueOf line (Some d) = (length line ≤ longest_event) × (is_blank line ≡ false) × IsUtf8 line × (read line ≡ Some d)
 
 -- why the line has no value
 abbrev pub HasNoValue : List ℕ → LineFault → Type 0
-HasNoValue line TooLong = longest_line < length line
-HasNoValue line NotJson = (length line ≤ longest_line) × (is_blank line ≡ false) × (IsUtf8 line → read line ≡ None)
+HasNoValue line TooLong = longest_event < length line
+HasNoValue line NotJson = (length line ≤ longest_event) × (is_blank line ≡ false) × (IsUtf8 line → read line ≡ None)
 HasNoValue line OutOfMemory = Unit {0}
 
 -- the line says this event, or nothing

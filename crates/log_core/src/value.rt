@@ -2,14 +2,14 @@
 ghost use Rattle.std.specs.Prelude.{◌≡◌, ◌≤◌, false, length, Some, IfOk, IfErr, option_map};
 ghost use Rattle.std.specs.List.{list_all};
 ghost use Rattle.serde_json.specs.View.{view};
-ghost use Rattle.log_core.specs.Lines.{longest_line, is_space, is_blank, IsValueOf, HasNoValue};
+ghost use Rattle.log_core.specs.Lines.{longest_event, is_space, is_blank, IsValueOf, HasNoValue};
 
 use crate::line_fault::LineFault;
 use serde_json::Value;
 use std::alloc::Global;
 
-/// The most bytes of a line, without its line feed.
-const LONGEST_LINE: usize = 1_048_576;
+/// The most bytes of an event's line, without its line feed.
+const LONGEST_EVENT: usize = 1_048_576;
 
 fn is_space(byte: u8) -> bool
     ensures { result ≡ is_space byte }
@@ -26,7 +26,7 @@ fn is_blank(line: &[u8]) -> bool
 
 /// The JSON value of a line that isn't blank.
 fn value_of(heap: Global, line: &[u8]) -> Result<Value, LineFault>
-    requires short { length line.now ≤ longest_line }
+    requires short { length line.now ≤ longest_event }
     requires told { is_blank line.now ≡ false }
     ensures ok { IfOk result (λ v. IsValueOf line.now (Some (view v))) }
     ensures err { IfErr result (HasNoValue line.now) }
@@ -46,7 +46,7 @@ pub fn value_of_line(heap: Global, line: &[u8]) -> Result<Option<Value>, LineFau
     ensures ok { IfOk result (λ v. IsValueOf line.now (option_map view v)) }
     ensures err { IfErr result (HasNoValue line.now) }
 {
-    if line.len() > LONGEST_LINE {
+    if line.len() > LONGEST_EVENT {
         return Err(LineFault::TooLong);
     }
     if is_blank(line) {
