@@ -21,7 +21,7 @@ use diff_core::{Diff, OnlineRow};
 use payload_core::Oom;
 use report_core::{answer, node, step_diff};
 use std::alloc::Allocator;
-use transcript_core::put_call;
+use transcript_core::{CastRef, put_call};
 
 /// Appends the dots of the rows that left and joined the online list of a node, and what the node has seen of each name
 /// for which this differs from `before`. `before` is what the node had seen before the call, `count` the number of
@@ -34,12 +34,12 @@ fn put_changed<'a, B: Allocator>(
     joined: &[OnlineRow<&'a B>],
     before: &[Seen],
     count: u16,
-    alloc: &'a B,
 ) -> Result<(), Oom>
     requires { count ≤ most_names }
     ensures { OnOk result (string_bytes text.new ≡ string_bytes text.old ++
         changed_text left.now joined.now before.now (option_map (λ n. n.now) node.entry) count) }
 {
+    let alloc = *text.allocator();
     put_rows_keys(text, left, joined, alloc)?;
     let changes = changes_in(node, before, count, alloc)?;
     put_numbers_key(text, "dots", &changes)
@@ -79,34 +79,41 @@ fn put_taken_head<A: Allocator>(
     Ok(text.push_str(reads)?)
 }
 
+/// A step that a call took.
+#[derive(Drop)]
+struct TakenStep<'a, 't, B: Allocator> {
+    /// The node that made the call and took the step.
+    actor: u16,
+    act: &'t Act<&'a B>,
+    number: u64,
+}
+
 /// Appends what the page tells of a step that was taken. `bench` is the bench after the step; `before` is what
 /// `Before::of` gave just before it; `diff` says how the step changed the online list of its node.
 #[tactic(auto, unfolding(crate::specs::PageData::taken_text))]
 fn put_taken<'a, B: Allocator>(
     text: &mut String<&'a B>,
     bench: &Bench<'a, B>,
-    actor: u16,
-    act: &Act<&'a B>,
-    number: u64,
+    taken: &TakenStep<'a, '_, B>,
     before: &Before<'a, B>,
     diff: &Diff<&'a B>,
     alloc: &'a B,
 ) -> Result<(), Oom>
-    requires { actor < length bench.now.names }
+    requires { taken.now.actor < length bench.now.names }
     ensures { OnOk result (string_bytes text.new ≡ string_bytes text.old ++
-        taken_text bench.now actor (plain_act act.now) number (string_bytes before.now.reads) diff.now.left.items diff.now.joined.items before.now.seen.items) }
+        taken_text bench.now taken.now.actor (plain_act taken.now.act.now) taken.now.number (string_bytes before.now.reads)
+        diff.now.left.items diff.now.joined.items before.now.seen.items) }
 {
-    put_taken_head(text, actor, number, before.reads.as_str())?;
-    put_act_gives(text, bench, actor, act, diff, alloc)?;
+    put_taken_head(text, taken.actor, taken.number, before.reads.as_str())?;
+    put_act_gives(text, bench, taken.actor, taken.act, diff, alloc)?;
     let count = bench.names().len() as u16;
     put_changed(
         text,
-        node(bench, actor),
+        node(bench, taken.actor),
         &diff.left,
         &diff.joined,
         &before.seen,
         count,
-        alloc,
     )
 }
 
@@ -114,19 +121,17 @@ fn put_taken<'a, B: Allocator>(
 fn put_step<'a, B: Allocator>(
     text: &mut String<&'a B>,
     bench: &Bench<'a, B>,
-    actor: u16,
-    act: &Act<&'a B>,
-    number: u64,
+    taken: &TakenStep<'a, '_, B>,
     before: &Before<'a, B>,
     alloc: &'a B,
 ) -> Result<(), Oom>
-    requires actor { actor < length bench.now.names }
-    requires free { first_consequence bench.now.state.remaining number ≡ None }
-    ensures { OnOk result (Tells bench.now actor (plain_act act.now) number (string_bytes before.now.reads) before.now.seen.items
-        (string_bytes text.old) (string_bytes text.new)) }
+    requires actor { taken.now.actor < length bench.now.names }
+    requires free { first_consequence bench.now.state.remaining taken.now.number ≡ None }
+    ensures { OnOk result (Tells bench.now taken.now.actor (plain_act taken.now.act.now) taken.now.number
+        (string_bytes before.now.reads) before.now.seen.items (string_bytes text.old) (string_bytes text.new)) }
 {
-    let diff = step_diff(bench, number, alloc)?;
-    let put = put_taken(text, bench, actor, act, number, before, &diff, alloc);
+    let diff = step_diff(bench, taken.number, alloc)?;
+    let put = put_taken(text, bench, taken, before, &diff, alloc);
     // form: drop before exit
     drop(diff);
     put
@@ -138,7 +143,6 @@ fn put_undone_at<'a, B: Allocator>(
     text: &mut String<&'a B>,
     bench: &Bench<'a, B>,
     before: &Before<'a, B>,
-    alloc: &'a B,
 ) -> Result<(), Oom>
     ensures { OnOk result (string_bytes text.new ≡ string_bytes text.old ++
         undone_at bench.now before.now.node before.now.undone.joined.items before.now.undone.left.items before.now.seen.items) }
@@ -156,7 +160,6 @@ fn put_undone_at<'a, B: Allocator>(
         &undone.left,
         &before.seen,
         count,
-        alloc,
     )
 }
 
@@ -168,13 +171,12 @@ fn put_undone<'a, B: Allocator>(
     bench: &Bench<'a, B>,
     number: u64,
     before: &Before<'a, B>,
-    alloc: &'a B,
 ) -> Result<(), Oom>
     ensures { OnOk result (string_bytes text.new ≡ string_bytes text.old ++
         undone_text bench.now number before.now.node before.now.undone.joined.items before.now.undone.left.items before.now.seen.items) }
 {
     put_number_key(text, "undoes", number)?;
-    put_undone_at(text, bench, before, alloc)
+    put_undone_at(text, bench, before)
 }
 
 /// Appends, for `HasConsequence`, the step whose undo was refused and this step's least consequence; nothing for
@@ -226,8 +228,11 @@ fn put_outcome<'a, B: Allocator>(
     bench.bench_law();
     let reply = answer(bench, actor, act)?;
     match reply {
-        Reply::Taken(number) => put_step(text, bench, actor, act, number, before, alloc),
-        Reply::Undone(number) => put_undone(text, bench, number, before, alloc),
+        Reply::Taken(number) => {
+            let taken = TakenStep { actor, act, number };
+            put_step(text, bench, &taken, before, alloc)
+        }
+        Reply::Undone(number) => put_undone(text, bench, number, before),
         Reply::Refused(fault) => put_refused(text, fault, alloc),
     }
 }
@@ -246,7 +251,8 @@ fn put_asked<'a, B: Allocator>(
         asked_text (record { nodes = nodes.now; consoles = consoles.now }) actor (plain_act act.now)) }
 {
     let mut line = String::new(alloc);
-    put_call(&mut line, nodes, consoles, actor, act)?;
+    let cast = CastRef { nodes, consoles };
+    put_call(&mut line, &cast, actor, act)?;
     write!(text, "{{\"by\":{actor}")?;
     put_text_key(text, "line", line.as_str())
 }

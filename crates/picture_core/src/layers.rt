@@ -12,6 +12,7 @@ ghost use Rattle.picture_core.specs.Pictures.{longest, messages, rows, switches,
 ghost use Rattle.picture_core.specs.Rows.{longest_from, message_of, messages_from, row_if, row_of, row_told, rows_from, with_length, with_row, with_words};
 ghost use Rattle.picture_core.specs.Words.{title_told, words_told};
 
+use crate::call::Call;
 use crate::online::{Asked, Switch, note_switch};
 use crate::range::Range;
 use crate::rows::{lane_of, node_changed, node_undone, put_message_of, put_row};
@@ -20,8 +21,9 @@ use crate::sheet::Sheet;
 use crate::words::{title_of, words_of};
 use bench_core::{Bench, Event, History, Names, TextSet};
 use payload_core::Oom;
-use report_core::{Acted, ask};
+use report_core::ask;
 use std::alloc::Allocator;
+use transcript_core::CastRef;
 
 /// What is drawn of the recorded calls: the messages and the rows, which lie over the lanes; how many bytes the longest
 /// words of a drawn row have, at most 4096 (`longest`); and the changes of the lanes. At such a change a node begins or
@@ -45,81 +47,67 @@ pub fn with_length(longest: u32, bytes: usize) -> u32
 }
 
 /// Appends a call's row to `layers.rows`, and raises `layers.longest` if the row's words are longer than that.
-/// `changed` is the node that the call changed.
 #[tactic(auto, unfolding(crate::specs::Rows::row_told))]
 fn put_drawn<'a, N: Allocator, B: Allocator>(
     layers: &mut Layers<'a, B>,
     names: &Names<N>,
     sheet: &Sheet<'a, '_, B>,
-    changed: Option<u16>,
-    row: u32,
-    event: &Event<&'a B>,
-    acted: &Acted<&'a B>,
+    call: &Call<'a, '_, B>,
 ) -> Result<(), Oom>
     ensures rows { OnOk result (string_bytes layers.new.rows ≡ string_bytes layers.old.rows ++
-        text_of (row_told sheet.now.nodes sheet.now.steps.now changed row event.now
-        (title_told names.now sheet.now.consoles.now event.now
-        (acted_text names.now acted.now.reply acted.now.change.left.items acted.now.change.joined.items))
-        (words_told names.now sheet.now.consoles.now event.now acted.now.change.left.items acted.now.change.joined.items))) }
+        text_of (row_told sheet.now.nodes sheet.now.steps.now call.now.changed call.now.row call.now.event.now
+        (title_told names.now sheet.now.consoles.now call.now.event.now
+        (acted_text names.now call.now.acted.now.reply call.now.acted.now.change.left.items call.now.acted.now.change.joined.items))
+        (words_told names.now sheet.now.consoles.now call.now.event.now
+        call.now.acted.now.change.left.items call.now.acted.now.change.joined.items))) }
     ensures longest { OnOk result (layers.new.longest ≡ with_length layers.old.longest
-        (length (words_told names.now sheet.now.consoles.now event.now acted.now.change.left.items acted.now.change.joined.items))) }
+        (length (words_told names.now sheet.now.consoles.now call.now.event.now
+        call.now.acted.now.change.left.items call.now.acted.now.change.joined.items))) }
     ensures messages { layers.new.messages ≡ layers.old.messages }
     ensures switches { layers.new.switches ≡ layers.old.switches }
 {
-    let lane = lane_of(sheet.nodes, event.actor, event.reply, changed);
-    let title = title_of(event, names, sheet.consoles, acted, sheet.alloc)?;
-    let words = words_of(event, names, sheet.consoles, acted, sheet.alloc)?;
-    put_row(
-        &mut layers.rows,
-        sheet,
-        lane,
-        row,
-        event.reply,
-        &title,
-        &words,
-    )?;
+    let event = call.event;
+    let cast = CastRef {
+        nodes: names,
+        consoles: sheet.consoles,
+    };
+    let lane = lane_of(sheet.nodes, event.actor, event.reply, call.changed);
+    let title = title_of(event, &cast, call.acted, sheet.alloc)?;
+    let words = words_of(event, &cast, call.acted, sheet.alloc)?;
+    put_row(&mut layers.rows, sheet, call, lane, &title, &words)?;
     layers.longest = with_length(layers.longest, words.len());
     Ok(())
 }
 
-/// Notes in `layers` if the node `changed` begins or stops listing what `of` asks about, and draws the call if its row
-/// is in the range. `asked` is the bench after the call, `changed` the node that the call changed, and `acted` the
-/// reply to the call, with the change of that node's online list.
+/// Notes in `layers` if the node that the call changed begins or stops listing what `sheet.of` asks about, and draws the
+/// call if its row is in the range. `asked` is the bench after the call.
 #[tactic(auto, unfolding(crate::specs::Rows::row_if, crate::specs::Rows::with_words))]
 fn put_told<'a, B: Allocator>(
     asked: &Bench<'a, B>,
     layers: &mut Layers<'a, B>,
     sheet: &Sheet<'a, '_, B>,
-    changed: Option<u16>,
-    row: u32,
-    event: &Event<&'a B>,
-    acted: &Acted<&'a B>,
+    call: &Call<'a, '_, B>,
 ) -> Result<(), Oom>
     ensures rows { OnOk result (string_bytes layers.new.rows ≡ string_bytes layers.old.rows ++
-        text_of (row_if sheet.now.nodes sheet.now.steps.now sheet.now.range changed row event.now
-        (title_told asked.now.names sheet.now.consoles.now event.now
-        (acted_text asked.now.names acted.now.reply acted.now.change.left.items acted.now.change.joined.items))
-        (words_told asked.now.names sheet.now.consoles.now event.now acted.now.change.left.items acted.now.change.joined.items))) }
-    ensures longest { OnOk result (layers.new.longest ≡ with_words sheet.now.range row
-        (words_told asked.now.names sheet.now.consoles.now event.now acted.now.change.left.items acted.now.change.joined.items) layers.old.longest) }
+        text_of (row_if sheet.now.nodes sheet.now.steps.now sheet.now.range call.now.changed call.now.row call.now.event.now
+        (title_told asked.now.names sheet.now.consoles.now call.now.event.now
+        (acted_text asked.now.names call.now.acted.now.reply call.now.acted.now.change.left.items call.now.acted.now.change.joined.items))
+        (words_told asked.now.names sheet.now.consoles.now call.now.event.now
+        call.now.acted.now.change.left.items call.now.acted.now.change.joined.items))) }
+    ensures longest { OnOk result (layers.new.longest ≡ with_words sheet.now.range call.now.row
+        (words_told asked.now.names sheet.now.consoles.now call.now.event.now
+        call.now.acted.now.change.left.items call.now.acted.now.change.joined.items) layers.old.longest) }
     ensures messages { layers.new.messages ≡ layers.old.messages }
-    ensures switches { OnOk result ((before : List Row) → acted.now.change.left.items ≡ alone before (rows_of asked.now changed) →
-        acted.now.change.joined.items ≡ alone (rows_of asked.now changed) before →
-        layers.new.switches.items ≡ layers.old.switches.items ++ switch_at (option_copied sheet.now.of) row changed before (rows_of asked.now changed)) }
+    ensures switches { OnOk result ((before : List Row) → call.now.acted.now.change.left.items ≡ alone before (rows_of asked.now call.now.changed) →
+        call.now.acted.now.change.joined.items ≡ alone (rows_of asked.now call.now.changed) before →
+        layers.new.switches.items ≡ layers.old.switches.items ++
+        switch_at (option_copied sheet.now.of) call.now.row call.now.changed before (rows_of asked.now call.now.changed)) }
 {
-    note_switch(
-        asked,
-        &mut layers.switches,
-        sheet.of,
-        row,
-        changed,
-        &acted.change,
-        sheet.alloc,
-    )?;
-    if !sheet.range.draws(row) {
+    note_switch(asked, &mut layers.switches, sheet.of, call, sheet.alloc)?;
+    if !sheet.range.draws(call.row) {
         return Ok(());
     }
-    put_drawn(layers, asked.names(), sheet, changed, row, event, acted)
+    put_drawn(layers, asked.names(), sheet, call)
 }
 
 /// Makes a recorded call on the bench `asked`, and draws in `layers` what `range` shows of the call. Also notes in
@@ -143,7 +131,13 @@ fn put_event<'a, B: Allocator>(
     let undone = node_undone(asked, &event.act);
     let acted = ask(asked, sheet.alloc, event.actor, &event.act)?;
     let changed = node_changed(event.actor, acted.reply, undone);
-    let told = put_told(asked, layers, sheet, changed, row, event, &acted);
+    let call = Call {
+        row,
+        event,
+        acted: &acted,
+        changed,
+    };
+    let told = put_told(asked, layers, sheet, &call);
     // form: drop before exit
     drop(acted);
     told

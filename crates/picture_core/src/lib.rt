@@ -6,10 +6,12 @@
 //!
 //! The modules in reading order: `plan`, where things stand; `shade`, whether a step remains, and `kind`, how a call
 //! looks; `shapes`, a lane, a message, a mark, words; `range`, which rows are drawn; `words`, the words of a row;
-//! `online`, where lanes are thick; `sheet`, what is drawn; `rows`, the drawing of one recorded call, and `layers`,
-//! that of all; `picture`, the whole picture; `view`, what is asked for; `draw_fault`, why nothing is drawn.
+//! `call`, a call that was made again; `online`, where lanes are thick; `sheet`, what is drawn; `rows`, the drawing of
+//! one recorded call, and `layers`, that of all; `picture`, the whole picture; `view`, what is asked for; `draw_fault`,
+//! why nothing is drawn.
 #![tactic(auto)]
 
+mod call;
 mod draw_fault;
 mod kind;
 mod layers;

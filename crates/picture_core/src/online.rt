@@ -8,9 +8,10 @@ ghost use Rattle.report_core.specs.Shown.{rows_at, rows_of};
 ghost use Rattle.picture_core.specs.Online.{bar_path, end_path, is_asked, lists, switch_at, switch_if, switch_path};
 ghost use Rattle.picture_core.specs.Pictures.{is_of};
 
+use crate::call::Call;
 use crate::plan::{across, down};
 use bench_core::Bench;
-use diff_core::{Diff, OnlineRow};
+use diff_core::OnlineRow;
 use payload_core::{Oom, Word};
 use report_core::rows_at;
 use std::alloc::Allocator;
@@ -105,22 +106,23 @@ fn push_switch<A: Allocator>(
     Ok(switches.push(Switch { row, node, begins })?)
 }
 
-/// Appends a change of the node's lane, if the call in this row made the node begin or stop listing what is asked
-/// about. The node's online list is made only if a row of that topic and key left or joined. `bench` is the bench
-/// after the call, and `change` how the call changed the node's online list.
+/// Appends a change of the node's lane, if the call made the node begin or stop listing what is asked about. The node's
+/// online list is made only if a row of that topic and key left or joined. `bench` is the bench after the call, and
+/// `node` the node that the call changed.
 fn note_change<'a, B: Allocator, W: Allocator>(
     bench: &Bench<'a, B>,
     switches: &mut Vec<Switch, &'a B>,
     asked: &Asked<W>,
-    row: u32,
+    call: &Call<'a, '_, B>,
     node: u16,
-    change: &Diff<&'a B>,
     alloc: &'a B,
 ) -> Result<(), Oom>
-    ensures { OnOk result ((before : List Row) → change.now.left.items ≡ alone before (rows_at bench.now node) →
-        change.now.joined.items ≡ alone (rows_at bench.now node) before →
-        switches.new.items ≡ switches.old.items ++ switch_if row node (lists asked.now before) (lists asked.now (rows_at bench.now node))) }
+    ensures { OnOk result ((before : List Row) → call.now.acted.now.change.left.items ≡ alone before (rows_at bench.now node) →
+        call.now.acted.now.change.joined.items ≡ alone (rows_at bench.now node) before →
+        switches.new.items ≡ switches.old.items ++
+        switch_if call.now.row node (lists asked.now before) (lists asked.now (rows_at bench.now node))) }
 {
+    let change = &call.acted.change;
     let left = lists(asked, &change.left);
     if !left && !lists(asked, &change.joined) {
         return Ok(());
@@ -130,33 +132,31 @@ fn note_change<'a, B: Allocator, W: Allocator>(
     let was = left || lists_beside(asked, &rows, &change.joined);
     // form: drop before exit
     drop(rows);
-    push_switch(switches, row, u32::from(node), was, now)
+    push_switch(switches, call.row, u32::from(node), was, now)
 }
 
-/// Appends a change of the lane of the node `changed`, if the call in this row made the node begin or stop listing what
-/// is asked about. Appends nothing if nothing is asked about, or no node changed. `bench` is the bench after the call,
-/// and `change` how the call changed the node's online list.
+/// Appends a change of the lane of the node that the call changed, if the call made that node begin or stop listing what
+/// is asked about. Appends nothing if nothing is asked about, or no node changed. `bench` is the bench after the call.
 #[tactic(auto, unfolding(crate::specs::Online::switch_at, report_core::specs::Shown::rows_of))]
 pub fn note_switch<'a, B: Allocator, W: Allocator>(
     bench: &Bench<'a, B>,
     switches: &mut Vec<Switch, &'a B>,
     asked: Option<&Asked<W>>,
-    row: u32,
-    changed: Option<u16>,
-    change: &Diff<&'a B>,
+    call: &Call<'a, '_, B>,
     alloc: &'a B,
 ) -> Result<(), Oom>
-    ensures { OnOk result ((before : List Row) → change.now.left.items ≡ alone before (rows_of bench.now changed) →
-        change.now.joined.items ≡ alone (rows_of bench.now changed) before →
-        switches.new.items ≡ switches.old.items ++ switch_at (option_copied asked.entry) row changed before (rows_of bench.now changed)) }
+    ensures { OnOk result ((before : List Row) → call.now.acted.now.change.left.items ≡ alone before (rows_of bench.now call.now.changed) →
+        call.now.acted.now.change.joined.items ≡ alone (rows_of bench.now call.now.changed) before →
+        switches.new.items ≡ switches.old.items ++
+        switch_at (option_copied asked.entry) call.now.row call.now.changed before (rows_of bench.now call.now.changed)) }
 {
     let Some(asked) = asked else {
         return Ok(());
     };
-    let Some(node) = changed else {
+    let Some(node) = call.changed else {
         return Ok(());
     };
-    note_change(bench, switches, asked, row, node, change, alloc)
+    note_change(bench, switches, asked, call, node, alloc)
 }
 
 /// Appends a change of the lane to the path: a move to the row of the change, if the node begins listing there, and

@@ -124,44 +124,52 @@ fn put_lanes<'a, A: Allocator, N: Allocator, B: Allocator>(
     Ok(())
 }
 
-/// Appends the thick parts of a node's lane, down to where row `last` begins, if the node is asked about.
+/// The thick parts of all lanes.
+#[derive(Drop)]
+struct Bars<'a, 't, B: Allocator> {
+    /// A lane is thick where its node lists this; without it no lane is thick.
+    asked: Option<&'t Asked<&'a B>>,
+    /// Where the thick parts begin and end.
+    switches: &'t [Switch],
+    /// A thick part that doesn't end goes down to where this row begins.
+    last: u32,
+}
+
+/// Appends the thick parts of a node's lane, if the node is asked about.
 #[tactic(auto, using(crate::proofs::Texts::nothing_end))]
 fn put_bar_at<'a, A: Allocator, B: Allocator>(
     text: &mut String<A>,
-    asked: Option<&Asked<&'a B>>,
-    switches: &[Switch],
+    bars: &Bars<'a, '_, B>,
     nodes: u32,
     node: u32,
-    last: u32,
     alloc: &'a B,
 ) -> Result<(), Oom>
-    ensures { OnOk result (string_bytes text.new ≡ string_bytes text.old ++ text_of (bar_at (option_copied asked.entry) nodes last switches.now node)) }
+    ensures { OnOk result (string_bytes text.new ≡ string_bytes text.old ++
+        text_of (bar_at (option_copied bars.now.asked) nodes bars.now.last bars.now.switches.now node)) }
 {
-    let Some(asked) = asked else {
+    let Some(asked) = bars.asked else {
         return Ok(());
     };
     if !asked.is_of(node) {
         return Ok(());
     }
-    let path = bar_path(switches, nodes, node, last, alloc)?;
+    let path = bar_path(bars.switches, nodes, node, bars.last, alloc)?;
     put_bar(text, &path)
 }
 
-/// Appends the thick parts of the lanes of the nodes that are asked about, down to where row `last` begins.
+/// Appends the thick parts of the lanes of the nodes that are asked about.
 fn put_bars<'a, A: Allocator, N: Allocator, B: Allocator>(
     text: &mut String<A>,
     names: &Names<N>,
-    asked: Option<&Asked<&'a B>>,
-    switches: &[Switch],
-    last: u32,
+    bars: &Bars<'a, '_, B>,
     alloc: &'a B,
 ) -> Result<(), Oom>
     ensures { OnOk result (string_bytes text.new ≡ string_bytes text.old ++
-        text_of (bars_from (option_copied asked.entry) (length names.now) last switches.now 0 names.now)) }
+        text_of (bars_from (option_copied bars.now.asked) (length names.now) bars.now.last bars.now.switches.now 0 names.now)) }
 {
     let nodes = names.len() as u32;
     for number in 0..names.len() as u32 {
-        put_bar_at(text, asked, switches, nodes, number, last, alloc)?;
+        put_bar_at(text, bars, nodes, number, alloc)?;
     }
     Ok(())
 }
@@ -293,11 +301,16 @@ fn put_drawing<'a, A: Allocator, N: Allocator, B: Allocator>(
     let top = head_height(names);
     let width = width(names.len() as u32, layers.longest);
     let height = height(range);
+    let bars = Bars {
+        asked,
+        switches: &layers.switches,
+        last: range.last,
+    };
     put_opening(text, width, top + height, alloc)?;
     put_front(text)?;
     put_names(text, names, top, alloc)?;
     put_part(text, top, range.first, width, height, alloc)?;
-    put_bars(text, names, asked, &layers.switches, range.last, alloc)?;
+    put_bars(text, names, &bars, alloc)?;
     put_lanes(text, names, range, alloc)?;
     put_layer(text, &layers.messages)?;
     put_layer(text, &layers.rows)?;

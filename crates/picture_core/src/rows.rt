@@ -7,9 +7,10 @@ ghost use Rattle.bench_core.specs.Acts.{plain_act};
 ghost use Rattle.report_core.specs.StepDiffs.{asked_undo};
 ghost use Rattle.picture_core.specs.Rows.{lane_of, looks, mark_at, message_between, message_of, message_to, node_changed, node_undone, number_by, row_tree};
 
+use crate::call::Call;
 use crate::kind::Kind;
 use crate::shade::{Drawn, step_at};
-use crate::shapes::{Arrow, put_mark, put_message, put_number_label, put_words_label};
+use crate::shapes::{Arrow, CallMark, put_mark, put_message, put_number_label, put_words_label};
 use crate::sheet::Sheet;
 use bench_core::{Act, Bench, Event, Journal, Reply, Step};
 use payload_core::Oom;
@@ -153,16 +154,15 @@ pub fn lane_of(nodes: u32, actor: u16, reply: Reply, changed: Option<u16>) -> Op
 fn put_mark_at<'a, A: Allocator, B: Allocator>(
     text: &mut String<A>,
     nodes: u32,
-    row: u32,
-    kind: Kind,
-    title: &str,
+    sign: CallMark<'_>,
     node: Option<u16>,
     alloc: &'a B,
 ) -> Result<(), Oom>
-    ensures { OnOk result (string_bytes text.new ≡ string_bytes text.old ++ text_of (mark_at nodes row kind title.now node)) }
+    ensures { OnOk result (string_bytes text.new ≡ string_bytes text.old ++
+        text_of (mark_at nodes sign.entry.row sign.entry.kind sign.entry.title.now node)) }
 {
     match node {
-        Some(node) => put_mark(text, nodes, u32::from(node), row, kind, title, alloc),
+        Some(node) => put_mark(text, nodes, u32::from(node), sign, alloc),
         None => Ok(()),
     }
 }
@@ -183,17 +183,20 @@ fn put_number_by<A: Allocator>(text: &mut String<A>, row: u32, reply: Reply) -> 
 pub fn put_row<'a, A: Allocator, B: Allocator>(
     text: &mut String<A>,
     sheet: &Sheet<'a, '_, B>,
+    call: &Call<'a, '_, B>,
     lane: Option<u16>,
-    row: u32,
-    reply: Reply,
     title: &str,
     words: &str,
 ) -> Result<(), Oom>
     ensures { OnOk result (string_bytes text.new ≡ string_bytes text.old ++
-        text_of (row_tree sheet.now.nodes sheet.now.steps.now lane row reply title.now words.now)) }
+        text_of (row_tree sheet.now.nodes sheet.now.steps.now lane call.now.row call.now.event.now.reply title.now words.now)) }
 {
+    let event = call.event;
+    let row = call.row;
+    let reply = event.reply;
     let kind = looks(sheet.steps, reply);
+    let sign = CallMark { row, kind, title };
     put_number_by(text, row, reply)?;
-    put_mark_at(text, sheet.nodes, row, kind, title, lane, sheet.alloc)?;
+    put_mark_at(text, sheet.nodes, sign, lane, sheet.alloc)?;
     put_words_label(text, sheet.nodes, row, kind, words)
 }

@@ -258,28 +258,35 @@ pub fn put_message<'a, A: Allocator, B: Allocator>(
     put_titled_path(text, message_class(kind), path.as_str(), title.as_str())
 }
 
-/// Appends a circle on a lane, in the middle of a row, as the mark of a call.
+/// The mark of a call. It stands in the middle of the call's row, on a lane.
+#[derive(Clone, Copy)]
+pub struct CallMark<'t> {
+    pub row: u32,
+    pub kind: Kind,
+    pub title: &'t str,
+}
+
+/// Appends a circle on the lane of `node`, as the mark of a call.
 #[tactic(auto, unfolding(crate::specs::Shapes::dot_sign))]
 fn put_dot<A: Allocator>(
     text: &mut String<A>,
     nodes: u32,
     node: u32,
-    row: u32,
-    kind: Kind,
-    title: &str,
+    sign: CallMark<'_>,
 ) -> Result<(), Oom>
-    ensures { OnOk result (string_bytes text.new ≡ string_bytes text.old ++ text_of (dot_sign nodes node row kind title.now)) }
+    ensures { OnOk result (string_bytes text.new ≡ string_bytes text.old ++
+        text_of (dot_sign nodes node sign.entry.row sign.entry.kind sign.entry.title.now)) }
 {
     put_titled(
         text,
         "circle",
         &[
-            Attribute("class", Value::Text(kind.class())),
+            Attribute("class", Value::Text(sign.kind.class())),
             Attribute("cx", Value::Number(across(nodes, node))),
-            Attribute("cy", Value::Number(down(row))),
+            Attribute("cy", Value::Number(down(sign.row))),
             Attribute("r", Value::Text("4")),
         ],
-        title,
+        sign.title,
     )
 }
 
@@ -301,41 +308,39 @@ fn cross_path<'a, B: Allocator>(
     Ok(path)
 }
 
-/// Appends a cross on a lane, as the mark of a call that took a step back.
+/// Appends a cross on the lane of `node`, as the mark of a call that took a step back.
 #[tactic(auto, unfolding(crate::specs::Shapes::cross_sign))]
 fn put_cross<'a, A: Allocator, B: Allocator>(
     text: &mut String<A>,
     nodes: u32,
     node: u32,
-    row: u32,
-    title: &str,
+    sign: CallMark<'_>,
     alloc: &'a B,
 ) -> Result<(), Oom>
-    ensures { OnOk result (string_bytes text.new ≡ string_bytes text.old ++ text_of (cross_sign nodes node row title.now)) }
+    ensures { OnOk result (string_bytes text.new ≡ string_bytes text.old ++ text_of (cross_sign nodes node sign.entry.row sign.entry.title.now)) }
 {
-    let path = cross_path(nodes, node, row, alloc)?;
-    put_titled_path(text, "back", path.as_str(), title)
+    let path = cross_path(nodes, node, sign.row, alloc)?;
+    put_titled_path(text, "back", path.as_str(), sign.title)
 }
 
-/// Appends the mark of a call: a cross if the call took a step back, and else a circle.
+/// Appends the mark of a call on the lane of `node`: a cross if the call took a step back, and else a circle.
 pub fn put_mark<'a, A: Allocator, B: Allocator>(
     text: &mut String<A>,
     nodes: u32,
     node: u32,
-    row: u32,
-    kind: Kind,
-    title: &str,
+    sign: CallMark<'_>,
     alloc: &'a B,
 ) -> Result<(), Oom>
-    ensures { OnOk result (string_bytes text.new ≡ string_bytes text.old ++ text_of (mark nodes node row kind title.now)) }
+    ensures { OnOk result (string_bytes text.new ≡ string_bytes text.old ++
+        text_of (mark nodes node sign.entry.row sign.entry.kind sign.entry.title.now)) }
 {
     // form: each arm is a case of the proof
-    match kind {
-        Kind::Back => put_cross(text, nodes, node, row, title, alloc),
-        Kind::Step => put_dot(text, nodes, node, row, kind, title),
-        Kind::Future => put_dot(text, nodes, node, row, kind, title),
-        Kind::Undone => put_dot(text, nodes, node, row, kind, title),
-        Kind::Refused => put_dot(text, nodes, node, row, kind, title),
+    match sign.kind {
+        Kind::Back => put_cross(text, nodes, node, sign, alloc),
+        Kind::Step => put_dot(text, nodes, node, sign),
+        Kind::Future => put_dot(text, nodes, node, sign),
+        Kind::Undone => put_dot(text, nodes, node, sign),
+        Kind::Refused => put_dot(text, nodes, node, sign),
     }
 }
 

@@ -3,12 +3,12 @@ ghost use Rattle.std.specs.Prelude.{◌≡◌, ◌++◌, IfOk, OnOk, string_byte
 ghost use Rattle.report_core.specs.ActRows.{acted_text};
 ghost use Rattle.picture_core.specs.Words.{reply_words, row_words, title_told, words_told};
 
-use bench_core::{Event, Names, Reply, TextSet};
+use bench_core::{Event, Reply};
 use diff_core::OnlineRow;
 use payload_core::Oom;
 use report_core::{Acted, put_acted};
 use std::alloc::Allocator;
-use transcript_core::put_call;
+use transcript_core::{CastRef, put_call};
 
 /// Appends the words for a reply after two spaces: `undone N` with the number of the step, or `no` and the fault. For a
 /// step that was taken it appends nothing, as the step's number stands left of the lanes.
@@ -50,16 +50,15 @@ fn put_row_words<A: Allocator, R: Allocator>(
 #[tactic(auto, unfolding(crate::specs::Words::words_told))]
 pub fn words_of<'a, B: Allocator, N: Allocator, C: Allocator>(
     event: &Event<&'a B>,
-    names: &Names<N>,
-    consoles: &TextSet<C>,
+    cast: &CastRef<'_, N, C>,
     acted: &Acted<&'a B>,
     alloc: &'a B,
 ) -> Result<String<&'a B>, Oom>
     ensures { IfOk result (λ words. string_bytes words ≡
-        words_told names.now consoles.now event.now acted.now.change.left.items acted.now.change.joined.items) }
+        words_told cast.now.nodes.now cast.now.consoles.now event.now acted.now.change.left.items acted.now.change.joined.items) }
 {
     let mut words = String::new(alloc);
-    put_call(&mut words, names, consoles, event.actor, &event.act)?;
+    put_call(&mut words, cast, event.actor, &event.act)?;
     put_reply_words(&mut words, event.reply)?;
     put_row_words(&mut words, "-", &acted.change.left)?;
     put_row_words(&mut words, "+", &acted.change.joined)?;
@@ -70,17 +69,17 @@ pub fn words_of<'a, B: Allocator, N: Allocator, C: Allocator>(
 #[tactic(auto, unfolding(crate::specs::Words::title_told))]
 pub fn title_of<'a, B: Allocator, N: Allocator, C: Allocator>(
     event: &Event<&'a B>,
-    names: &Names<N>,
-    consoles: &TextSet<C>,
+    cast: &CastRef<'_, N, C>,
     acted: &Acted<&'a B>,
     alloc: &'a B,
 ) -> Result<String<&'a B>, Oom>
     ensures { IfOk result (λ title. string_bytes title ≡
-        title_told names.now consoles.now event.now (acted_text names.now acted.now.reply acted.now.change.left.items acted.now.change.joined.items)) }
+        title_told cast.now.nodes.now cast.now.consoles.now event.now
+        (acted_text cast.now.nodes.now acted.now.reply acted.now.change.left.items acted.now.change.joined.items)) }
 {
     let mut title = String::new(alloc);
-    put_call(&mut title, names, consoles, event.actor, &event.act)?;
+    put_call(&mut title, cast, event.actor, &event.act)?;
     title.push_str("\n")?;
-    put_acted(&mut title, names, acted)?;
+    put_acted(&mut title, cast.nodes, acted)?;
     Ok(title)
 }

@@ -24,19 +24,26 @@ pub fn console_at<A: Allocator>(consoles: &TextSet<A>, number: usize) -> &str
     }
 }
 
+/// The names of all who act, as a `Cast` has them, lent. An actor's number counts the nodes first, and then the consoles.
+#[derive(Drop)]
+pub struct CastRef<'t, N: Allocator, C: Allocator> {
+    pub nodes: &'t Names<N>,
+    pub consoles: &'t TextSet<C>,
+}
+
 /// The name of a node or a console; empty if there is no such actor.
 #[tactic(auto, unfolding(crate::specs::Actors::actor_name))]
 pub(crate) fn actor_name<'t, N: Allocator, C: Allocator>(
-    nodes: &'t Names<N>,
-    consoles: &'t TextSet<C>,
+    cast: &CastRef<'t, N, C>,
     actor: u16,
 ) -> &'t str
-    ensures { result.now ≡ actor_name (record { nodes = nodes.now; consoles = consoles.now }) actor }
+    ensures { result.now ≡ actor_name (record { nodes = cast.now.nodes.now; consoles = cast.now.consoles.now }) actor }
 {
+    let nodes = cast.nodes;
     if (actor as usize) < nodes.len() {
         return name_at(nodes, actor);
     }
-    console_at(consoles, actor as usize - nodes.len())
+    console_at(cast.consoles, actor as usize - nodes.len())
 }
 
 /// The greater of `count` and the number of consoles that must stand beside `nodes` nodes so that `actor` is the number

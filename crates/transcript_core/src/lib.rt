@@ -22,7 +22,7 @@ mod script;
 mod sender;
 mod steps;
 
-pub use actors::{console_at, free_consoles};
+pub use actors::{CastRef, console_at, free_consoles};
 pub use fault::TranscriptFault;
 pub use lines::put_call;
 pub use refusals::{Refusal, first_in, first_refused};

@@ -3,8 +3,8 @@ ghost use Rattle.std.specs.Prelude.{◌≡◌, ◌++◌, OnOk, string_bytes};
 ghost use Rattle.bench_core.specs.Acts.{plain_act};
 ghost use Rattle.transcript_core.specs.Scripts.{call_line};
 
-use crate::actors::actor_name;
-use bench_core::{Act, Names, TextSet};
+use crate::actors::{CastRef, actor_name};
+use bench_core::Act;
 use payload_core::Oom;
 use report_core::{name_at, put_act};
 use std::alloc::Allocator;
@@ -14,23 +14,22 @@ use std::alloc::Allocator;
 #[tactic(auto, unfolding(crate::specs::Scripts::call_line))]
 pub fn put_call<A: Allocator, N: Allocator, C: Allocator, W: Allocator>(
     text: &mut String<A>,
-    nodes: &Names<N>,
-    consoles: &TextSet<C>,
+    cast: &CastRef<'_, N, C>,
     actor: u16,
     act: &Act<W>,
 ) -> Result<(), Oom>
     ensures { OnOk result (string_bytes text.new ≡ string_bytes text.old ++
-        call_line (record { nodes = nodes.now; consoles = consoles.now }) actor (plain_act act.now)) }
+        call_line (record { nodes = cast.now.nodes.now; consoles = cast.now.consoles.now }) actor (plain_act act.now)) }
 {
     match act {
-        Act::Do(step) => put_act(text, nodes, actor, step),
+        Act::Do(step) => put_act(text, cast.nodes, actor, step),
         Act::Undo(number) => {
-            let actor = actor_name(nodes, consoles, actor);
+            let actor = actor_name(cast, actor);
             Ok(write!(text, "{actor} undo {number}")?)
         }
         Act::Back(node) => {
-            let actor = actor_name(nodes, consoles, actor);
-            let node = name_at(nodes, *node);
+            let actor = actor_name(cast, actor);
+            let node = name_at(cast.nodes, *node);
             Ok(write!(text, "{actor} back {node}")?)
         }
     }

@@ -2,7 +2,7 @@
 ghost use Rattle.std.specs.Prelude.{◌≡◌, ◌++◌, IfErr, IfOk, OnOk, string_bytes};
 ghost use Rattle.transcript_core.specs.Scripts.{IsScriptOf, Refuses, cast_of, cast_text, consoles_text, event_line, event_lines, script_text, spaced_names};
 
-use crate::actors::console_at;
+use crate::actors::{CastRef, console_at};
 use crate::fault::TranscriptFault;
 use crate::lines::put_call;
 use crate::read_back::read_back;
@@ -60,27 +60,27 @@ fn put_consoles<A: Allocator, C: Allocator>(
 #[tactic(auto, unfolding(crate::specs::Scripts::cast_text))]
 fn put_cast<A: Allocator, N: Allocator, C: Allocator>(
     text: &mut String<A>,
-    nodes: &Names<N>,
-    consoles: &TextSet<C>,
+    cast: &CastRef<'_, N, C>,
 ) -> Result<(), Oom>
-    ensures { OnOk result (string_bytes text.new ≡ string_bytes text.old ++ cast_text (record { nodes = nodes.now; consoles = consoles.now })) }
+    ensures { OnOk result (string_bytes text.new ≡ string_bytes text.old ++
+        cast_text (record { nodes = cast.now.nodes.now; consoles = cast.now.consoles.now })) }
 {
     text.push_str("nodes")?;
-    put_nodes(text, nodes)?;
+    put_nodes(text, cast.nodes)?;
     text.push_str("\n")?;
-    put_consoles(text, consoles)
+    put_consoles(text, cast.consoles)
 }
 
 /// Appends the line of a recorded call, and a line feed.
 fn put_event<A: Allocator, N: Allocator, C: Allocator, W: Allocator>(
     text: &mut String<A>,
-    nodes: &Names<N>,
-    consoles: &TextSet<C>,
+    cast: &CastRef<'_, N, C>,
     event: &Event<W>,
 ) -> Result<(), Oom>
-    ensures { OnOk result (string_bytes text.new ≡ string_bytes text.old ++ event_line (record { nodes = nodes.now; consoles = consoles.now }) event.now) }
+    ensures { OnOk result (string_bytes text.new ≡ string_bytes text.old ++
+        event_line (record { nodes = cast.now.nodes.now; consoles = cast.now.consoles.now }) event.now) }
 {
-    put_call(text, nodes, consoles, event.actor, &event.act)?;
+    put_call(text, cast, event.actor, &event.act)?;
     Ok(text.push_str("\n")?)
 }
 
@@ -89,14 +89,14 @@ fn put_event<A: Allocator, N: Allocator, C: Allocator, W: Allocator>(
 fn put_events<'a, A: Allocator, B: Allocator, N: Allocator, C: Allocator>(
     history: &History<'a, B>,
     text: &mut String<A>,
-    nodes: &Names<N>,
-    consoles: &TextSet<C>,
+    cast: &CastRef<'_, N, C>,
 ) -> Result<(), Oom>
-    ensures { OnOk result (string_bytes text.new ≡ string_bytes text.old ++ event_lines (record { nodes = nodes.now; consoles = consoles.now }) history.now) }
+    ensures { OnOk result (string_bytes text.new ≡ string_bytes text.old ++
+        event_lines (record { nodes = cast.now.nodes.now; consoles = cast.now.consoles.now }) history.now) }
 {
     for place in 0..history.len() {
         if let Some(event) = history.at(place) {
-            put_event(text, nodes, consoles, event)?;
+            put_event(text, cast, event)?;
         }
     }
     Ok(())
@@ -113,8 +113,12 @@ pub fn calls_text<'a, A: Allocator, B: Allocator>(
     ensures { IfOk result (λ text. string_bytes text ≡ script_text (cast_of bench.now consoles.now) bench.now.state.history) }
 {
     let mut text = String::new(alloc);
-    put_cast(&mut text, bench.names(), consoles)?;
-    put_events(bench.history(), &mut text, bench.names(), consoles)?;
+    let cast = CastRef {
+        nodes: bench.names(),
+        consoles,
+    };
+    put_cast(&mut text, &cast)?;
+    put_events(bench.history(), &mut text, &cast)?;
     Ok(text)
 }
 

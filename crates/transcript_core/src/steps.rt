@@ -7,7 +7,7 @@ ghost use Rattle.run_core.specs.Report.{after_command, call_of, commands_of, pla
 ghost use Rattle.transcript_core.specs.Scripts.{cast_of};
 ghost use Rattle.transcript_core.specs.Steps.{bench_steps, byte_text, command_head, command_steps, head_line, indented, note_text, number_text, recorded, reply_at, script_steps, steps_text, taker_of, taker_text, takers_of, undone_text, unwind_number, unwinds_one, with_reply, with_taker};
 
-use crate::actors::actor_name;
+use crate::actors::{CastRef, actor_name};
 use crate::lines::put_call;
 use bench_core::{Act, Bench, Event, History, Limits, Names, Reply, TextSet};
 use grammar_core::{Command, Line, Script, console_names, lines, node_names};
@@ -91,27 +91,27 @@ fn put_number<A: Allocator>(text: &mut String<A>, reply: Option<Reply>) -> Resul
 /// Appends `undone by ACTOR` after two spaces.
 fn put_undone<A: Allocator, N: Allocator, C: Allocator>(
     text: &mut String<A>,
-    nodes: &Names<N>,
-    consoles: &TextSet<C>,
+    cast: &CastRef<'_, N, C>,
     actor: u16,
 ) -> Result<(), Oom>
-    ensures { OnOk result (string_bytes text.new ≡ string_bytes text.old ++ undone_text (record { nodes = nodes.now; consoles = consoles.now }) actor) }
+    ensures { OnOk result (string_bytes text.new ≡ string_bytes text.old ++
+        undone_text (record { nodes = cast.now.nodes.now; consoles = cast.now.consoles.now }) actor) }
 {
     text.push_str("  undone by ")?;
-    Ok(text.push_str(actor_name(nodes, consoles, actor))?)
+    Ok(text.push_str(actor_name(cast, actor))?)
 }
 
 /// Appends that `taker` took the step back; nothing if `taker` is `None`.
 fn put_taker<A: Allocator, N: Allocator, C: Allocator>(
     text: &mut String<A>,
-    nodes: &Names<N>,
-    consoles: &TextSet<C>,
+    cast: &CastRef<'_, N, C>,
     taker: Option<u16>,
 ) -> Result<(), Oom>
-    ensures { OnOk result (string_bytes text.new ≡ string_bytes text.old ++ taker_text (record { nodes = nodes.now; consoles = consoles.now }) taker) }
+    ensures { OnOk result (string_bytes text.new ≡ string_bytes text.old ++
+        taker_text (record { nodes = cast.now.nodes.now; consoles = cast.now.consoles.now }) taker) }
 {
     match taker {
-        Some(actor) => put_undone(text, nodes, consoles, actor),
+        Some(actor) => put_undone(text, cast, actor),
         None => Ok(()),
     }
 }
@@ -119,16 +119,15 @@ fn put_taker<A: Allocator, N: Allocator, C: Allocator>(
 /// If the reply says that a step was taken, appends who took that step back; nothing if nobody did.
 fn put_note<A: Allocator, N: Allocator, C: Allocator>(
     text: &mut String<A>,
-    nodes: &Names<N>,
-    consoles: &TextSet<C>,
+    cast: &CastRef<'_, N, C>,
     takers: &[Option<u16>],
     reply: Option<Reply>,
 ) -> Result<(), Oom>
     ensures { OnOk result (string_bytes text.new ≡ string_bytes text.old ++
-        note_text (record { nodes = nodes.now; consoles = consoles.now }) takers.now reply) }
+        note_text (record { nodes = cast.now.nodes.now; consoles = cast.now.consoles.now }) takers.now reply) }
 {
     match reply {
-        Some(Reply::Taken(number)) => put_taker(text, nodes, consoles, taker_of(takers, number)),
+        Some(Reply::Taken(number)) => put_taker(text, cast, taker_of(takers, number)),
         _ => Ok(()),
     }
 }
@@ -138,19 +137,18 @@ fn put_note<A: Allocator, N: Allocator, C: Allocator>(
 #[tactic(auto, unfolding(crate::specs::Steps::head_line))]
 fn put_head<A: Allocator, N: Allocator, C: Allocator, W: Allocator>(
     text: &mut String<A>,
-    nodes: &Names<N>,
-    consoles: &TextSet<C>,
+    cast: &CastRef<'_, N, C>,
     takers: &[Option<u16>],
     actor: u16,
     act: &Act<W>,
     reply: Option<Reply>,
 ) -> Result<(), Oom>
     ensures { OnOk result (string_bytes text.new ≡ string_bytes text.old ++
-        head_line (record { nodes = nodes.now; consoles = consoles.now }) takers.now actor (plain_act act.now) reply) }
+        head_line (record { nodes = cast.now.nodes.now; consoles = cast.now.consoles.now }) takers.now actor (plain_act act.now) reply) }
 {
     put_number(text, reply)?;
-    put_call(text, nodes, consoles, actor, act)?;
-    put_note(text, nodes, consoles, takers, reply)?;
+    put_call(text, cast, actor, act)?;
+    put_note(text, cast, takers, reply)?;
     Ok(text.push_str("\n")?)
 }
 
@@ -173,29 +171,28 @@ fn put_unwind_number<A: Allocator>(
 #[tactic(auto, unfolding(crate::specs::Steps::command_head))]
 fn put_command_head<A: Allocator, N: Allocator, C: Allocator, W: Allocator>(
     text: &mut String<A>,
-    nodes: &Names<N>,
-    consoles: &TextSet<C>,
+    cast: &CastRef<'_, N, C>,
     takers: &[Option<u16>],
     command: &Command<W>,
     reply: Option<Reply>,
     remains: bool,
 ) -> Result<(), Oom>
     ensures { OnOk result (string_bytes text.new ≡ string_bytes text.old ++
-        command_head (record { nodes = nodes.now; consoles = consoles.now }) takers.now (plain_command command.now) reply remains) }
+        command_head (record { nodes = cast.now.nodes.now; consoles = cast.now.consoles.now }) takers.now (plain_command command.now) reply remains) }
 {
     match command {
-        Command::Call(actor, act) => put_head(text, nodes, consoles, takers, *actor, act, reply),
+        Command::Call(actor, act) => put_head(text, cast, takers, *actor, act, reply),
         Command::Unwind(actor, number) => {
-            let actor = actor_name(nodes, consoles, *actor);
+            let actor = actor_name(cast, *actor);
             put_unwind_number(text, remains, *number)?;
             Ok(writeln!(text, "{actor} unwind {number}")?)
         }
         Command::Show(node) => {
-            let name = name_at(nodes, *node);
+            let name = name_at(cast.nodes, *node);
             Ok(writeln!(text, "show {name}")?)
         }
         Command::Dots(node) => {
-            let name = name_at(nodes, *node);
+            let name = name_at(cast.nodes, *node);
             Ok(writeln!(text, "dots {name}")?)
         }
         Command::Why(number) => Ok(writeln!(text, "why {number}")?),
@@ -270,15 +267,11 @@ fn put_line<'a, B: Allocator>(
     obey(&mut printed, bench, command, alloc)?;
     let reply = reply_at(bench.history(), place);
     let mut head = String::new(alloc);
-    put_command_head(
-        &mut head,
-        bench.names(),
+    let cast = CastRef {
+        nodes: bench.names(),
         consoles,
-        takers,
-        command,
-        reply,
-        remains,
-    )?;
+    };
+    put_command_head(&mut head, &cast, takers, command, reply, remains)?;
     put_below(out, &head, &printed)
 }
 
@@ -300,15 +293,11 @@ fn put_event<'a, B: Allocator>(
     act(&mut printed, alloc, bench, event.actor, &event.act)?;
     let reply = reply_at(bench.history(), place);
     let mut head = String::new(alloc);
-    put_head(
-        &mut head,
-        bench.names(),
+    let cast = CastRef {
+        nodes: bench.names(),
         consoles,
-        takers,
-        event.actor,
-        &event.act,
-        reply,
-    )?;
+    };
+    put_head(&mut head, &cast, takers, event.actor, &event.act, reply)?;
     put_below(out, &head, &printed)
 }
 

@@ -12,6 +12,17 @@ use report_core::{put_act, put_lines};
 use std::alloc::Allocator;
 use whatif_core::{Difference, Kind};
 
+/// The recorded run, whose steps and rows the text tells of.
+#[derive(Drop)]
+pub(crate) struct Recorded<'a, 't, N: Allocator, B: Allocator> {
+    /// The names of the nodes.
+    pub names: &'t Names<N>,
+    /// The steps of the run.
+    pub journal: &'t Journal<'a, B>,
+    /// The rows that are asked for, at the end of the run.
+    pub before: &'t [OnlineRow<&'a B>],
+}
+
 /// Appends the step as `NUMBER NODE VERB ..`: its number, and then its line in a script.
 fn put_kept<A: Allocator, N: Allocator, W: Allocator>(
     text: &mut String<A>,
@@ -28,15 +39,15 @@ fn put_kept<A: Allocator, N: Allocator, W: Allocator>(
 /// Appends the step at `place`, if there is one, as `put_kept` does.
 #[tactic(auto, unfolding(crate::specs::Texts::step_words))]
 fn put_step<'a, A: Allocator, N: Allocator, B: Allocator>(
-    journal: &Journal<'a, B>,
+    recorded: &Recorded<'a, '_, N, B>,
     text: &mut String<A>,
-    names: &Names<N>,
     place: usize,
 ) -> Result<(), Oom>
-    ensures { OnOk result (string_bytes text.new ≡ string_bytes text.old ++ step_words names.now (kepts journal.now.steps) place) }
+    ensures { OnOk result (string_bytes text.new ≡ string_bytes text.old ++
+        step_words recorded.now.names.now (kepts recorded.now.journal.now.steps) place) }
 {
-    match journal.at(place) {
-        Some(kept) => put_kept(text, names, kept),
+    match recorded.journal.at(place) {
+        Some(kept) => put_kept(text, recorded.names, kept),
         None => Ok(()),
     }
 }
@@ -55,23 +66,23 @@ fn kind_word(kind: Kind) -> &'static str
 
 /// Appends ` before ` or ` behind ` and the step at `beside`; nothing for `Lost` and `Never`.
 fn put_side<'a, A: Allocator, N: Allocator, B: Allocator>(
-    journal: &Journal<'a, B>,
+    recorded: &Recorded<'a, '_, N, B>,
     text: &mut String<A>,
-    names: &Names<N>,
     kind: Kind,
     beside: usize,
 ) -> Result<(), Oom>
-    ensures { OnOk result (string_bytes text.new ≡ string_bytes text.old ++ side_words kind (step_words names.now (kepts journal.now.steps) beside)) }
+    ensures { OnOk result (string_bytes text.new ≡ string_bytes text.old ++
+        side_words kind (step_words recorded.now.names.now (kepts recorded.now.journal.now.steps) beside)) }
 {
     match kind {
         Kind::Lost | Kind::Never => Ok(()),
         Kind::Before => {
             text.push_str(" before ")?;
-            put_step(journal, text, names, beside)
+            put_step(recorded, text, beside)
         }
         Kind::Behind | Kind::Again => {
             text.push_str(" behind ")?;
-            put_step(journal, text, names, beside)
+            put_step(recorded, text, beside)
         }
     }
 }
@@ -90,39 +101,33 @@ fn put_places<A: Allocator>(text: &mut String<A>, count: usize) -> Result<(), Oo
 /// the word for the difference's kind.
 #[tactic(auto, unfolding(crate::specs::Texts::changed_words))]
 fn put_changed<'a, A: Allocator, N: Allocator, B: Allocator>(
-    journal: &Journal<'a, B>,
+    recorded: &Recorded<'a, '_, N, B>,
     text: &mut String<A>,
-    names: &Names<N>,
     number: usize,
     difference: &Difference<&'a B>,
 ) -> Result<(), Oom>
-    ensures { OnOk result (string_bytes text.new ≡ string_bytes text.old ++ changed_words names.now (kepts journal.now.steps) number difference.now) }
+    ensures { OnOk result (string_bytes text.new ≡ string_bytes text.old ++
+        changed_words recorded.now.names.now (kepts recorded.now.journal.now.steps) number difference.now) }
 {
     let kind = kind_word(difference.kind);
     write!(text, "change {number} {kind}")?;
-    put_step(journal, text, names, difference.place)
+    put_step(recorded, text, difference.place)
 }
 
 /// Appends the line of a difference: `change N KIND NUMBER NODE VERB ..`; then, for a step that is moved or comes
 /// again, the nearest step before or behind which it comes; then, if there are several such steps, how many.
 #[tactic(auto, unfolding(crate::specs::Texts::change_line))]
 fn put_line<'a, A: Allocator, N: Allocator, B: Allocator>(
-    journal: &Journal<'a, B>,
+    recorded: &Recorded<'a, '_, N, B>,
     text: &mut String<A>,
-    names: &Names<N>,
     number: usize,
     difference: &Difference<&'a B>,
 ) -> Result<(), Oom>
-    ensures { OnOk result (string_bytes text.new ≡ string_bytes text.old ++ change_line names.now (kepts journal.now.steps) number difference.now) }
+    ensures { OnOk result (string_bytes text.new ≡ string_bytes text.old ++
+        change_line recorded.now.names.now (kepts recorded.now.journal.now.steps) number difference.now) }
 {
-    put_changed(journal, text, names, number, difference)?;
-    put_side(
-        journal,
-        text,
-        names,
-        difference.kind,
-        difference.nearest().beside,
-    )?;
+    put_changed(recorded, text, number, difference)?;
+    put_side(recorded, text, difference.kind, difference.nearest().beside)?;
     put_places(text, difference.besides.len())?;
     Ok(text.push_str("\n")?)
 }
@@ -155,23 +160,20 @@ fn rows_alone<A: Allocator + Copy>(
     Ok(found)
 }
 
-/// Appends the text of a difference: its line, and the rows that its changes take away and bring. `before` has the rows
-/// at the end of the recorded run.
+/// Appends the text of a difference: its line, and the rows that its changes take away and bring.
 #[tactic(auto, unfolding(crate::specs::Texts::difference_text))]
 pub(crate) fn put_difference<'a, A: Allocator, N: Allocator, B: Allocator>(
-    journal: &Journal<'a, B>,
+    recorded: &Recorded<'a, '_, N, B>,
     text: &mut String<A>,
-    names: &Names<N>,
-    before: &[OnlineRow<&'a B>],
     number: usize,
     difference: &Difference<&'a B>,
     alloc: &'a B,
 ) -> Result<(), Oom>
-    ensures { OnOk result (string_bytes text.new ≡ string_bytes text.old ++ difference_text names.now (kepts journal.now.steps) before.now number
-        difference.now) }
+    ensures { OnOk result (string_bytes text.new ≡ string_bytes text.old ++
+        difference_text recorded.now.names.now (kepts recorded.now.journal.now.steps) recorded.now.before.now number difference.now) }
 {
-    put_line(journal, text, names, number, difference)?;
-    let gone = rows_alone(alloc, before, difference.rows.as_slice())?;
-    let come = rows_alone(alloc, difference.rows.as_slice(), before)?;
-    put_lines(text, names, gone.as_slice(), come.as_slice())
+    put_line(recorded, text, number, difference)?;
+    let gone = rows_alone(alloc, recorded.before, difference.rows.as_slice())?;
+    let come = rows_alone(alloc, difference.rows.as_slice(), recorded.before)?;
+    put_lines(text, recorded.names, gone.as_slice(), come.as_slice())
 }

@@ -7,9 +7,8 @@ ghost use Rattle.change_core.specs.Ends.{rows_before};
 ghost use Rattle.progress_core.specs.Watches.{Watched};
 ghost use Rattle.whatif_report.specs.Texts.{asked_words, counts_words, differences_text, head_line, whatif_text};
 
-use crate::change_text::put_difference;
-use bench_core::{Bench, Journal, Names};
-use diff_core::OnlineRow;
+use crate::change_text::{Recorded, put_difference};
+use bench_core::{Bench, Names};
 use payload_core::Oom;
 use progress_core::{Tried, Watch};
 use report_core::{name_at, put_rows};
@@ -61,17 +60,16 @@ fn put_head<A: Allocator, N: Allocator, W: Allocator>(
 
 /// Appends the text of each difference, numbered from 1.
 fn put_differences<'a, A: Allocator, N: Allocator, B: Allocator>(
-    journal: &Journal<'a, B>,
+    recorded: &Recorded<'a, '_, N, B>,
     text: &mut String<A>,
-    names: &Names<N>,
-    before: &[OnlineRow<&'a B>],
     told: &[Difference<&'a B>],
     alloc: &'a B,
 ) -> Result<(), Oom>
-    ensures { OnOk result (string_bytes text.new ≡ string_bytes text.old ++ differences_text names.now (kepts journal.now.steps) before.now 1 told.now) }
+    ensures { OnOk result (string_bytes text.new ≡ string_bytes text.old ++
+        differences_text recorded.now.names.now (kepts recorded.now.journal.now.steps) recorded.now.before.now 1 told.now) }
 {
     for place in 0..told.len() {
-        put_difference(journal, text, names, before, place + 1, &told[place], alloc)?;
+        put_difference(recorded, text, place + 1, &told[place], alloc)?;
     }
     Ok(())
 }
@@ -94,14 +92,12 @@ fn put_found<'a, A: Allocator, B: Allocator>(
 {
     put_head(text, bench.names(), question, found)?;
     put_rows(text, "= ", bench.names(), found.before.as_slice())?;
-    put_differences(
-        bench.remaining(),
-        text,
-        bench.names(),
-        found.before.as_slice(),
-        found.told.as_slice(),
-        alloc,
-    )
+    let recorded = Recorded {
+        names: bench.names(),
+        journal: bench.remaining(),
+        before: found.before.as_slice(),
+    };
+    put_differences(&recorded, text, found.told.as_slice(), alloc)
 }
 
 /// What would have made a difference to the rows of the question, as a text. Tells `watch` after each change how many

@@ -11,20 +11,20 @@ use Rattle.picture_core.proofs.online.note_change.Goals.{then-left, else-left}
 pub returns-then-not-lists : goal.returns-then-not-lists
 returns-then-not-lists g c =
     let asked = c.args.asked.now in
-    let none_left : lists asked c.args.change.now.left.items ≡ false =
+    let none_left : lists asked c.args.call.now.acted.now.change.left.items ≡ false =
     ap (lists asked) (sym c.deref.ensures.value) ∙ sym c.lists-left.ensures ∙ c.if-not-left.true in
-    let none_joined : lists asked c.args.change.now.joined.items ≡ false =
+    let none_joined : lists asked c.args.call.now.acted.now.change.joined.items ≡ false =
     ap (lists asked) (sym c.deref-then-not-left.ensures.value) ∙ sym c.lists.ensures ∙ c.if-not-lists.true in
     λ before left_is joined_is.
-    unswitched asked c.args.row c.args.node c.args.switches.now.items before (rows_at c.args.bench.now c.args.node) c.args.change.now.left.items
-    c.args.change.now.joined.items none_left none_joined left_is joined_is
+    unswitched asked c.args.call.now.row c.args.node c.args.switches.now.items before (rows_at c.args.bench.now c.args.node) c.args.call.now.acted.now.change.left.items
+    c.args.call.now.acted.now.change.joined.items none_left none_joined left_is joined_is
 
 pub returns : goal.returns
 returns g c =
     let asked = c.args.asked.now in
     let rows = rows_at c.args.bench.now c.args.node in
-    let left = c.args.change.now.left.items in
-    let joined = c.args.change.now.joined.items in
+    let left = c.args.call.now.acted.now.change.left.items in
+    let joined = c.args.call.now.acted.now.change.joined.items in
     let lists_left : c.lists-left.result ≡ lists asked left = c.lists-left.ensures ∙ ap (lists asked) c.deref.ensures.value in
     let now_is : c.lists-now.result ≡ lists asked rows =
     c.lists-now.ensures ∙ ap (lists asked) c.deref-2.ensures.value ∙ ap (lists asked) c.in_ok-rows.ensures in
@@ -41,7 +41,7 @@ returns g c =
     ] in
     on_ok_weaker c.push_switch.result
     (λ noted before left_is joined_is.
-    switched asked c.args.row c.args.node c.args.switches.now.items c.push_switch.new.switches.items before rows left joined c.if-left.was
+    switched asked c.args.call.now.row c.args.node c.args.switches.now.items c.push_switch.new.switches.items before rows left joined c.if-left.was
     c.lists-now.result was_is now_is
-    (noted ∙ ap (λ n. c.args.switches.now.items ++ switch_if c.args.row n c.if-left.was c.lists-now.result) c.from.ensures) left_is joined_is)
+    (noted ∙ ap (λ n. c.args.switches.now.items ++ switch_if c.args.call.now.row n c.if-left.was c.lists-now.result) c.from.ensures) left_is joined_is)
     c.push_switch.ensures

@@ -7,5 +7,5 @@ use Rattle.picture_core.proofs.picture.put_bars.Given as goal
 -- the bars so far, and then those that are left
 abbrev pub invariant-loop-number : goal.invariant-loop-number
 invariant-loop-number g l =
-    string_bytes l.text ++ text_of (bars_from (option_copied l.asked) (length l.names) l.last l.switches l.number (drop l.number l.names)) ≡ string_bytes l.fn.text ++
-    text_of (bars_from (option_copied l.asked) (length l.names) l.last l.switches 0 l.names)
+    string_bytes l.text ++ text_of (bars_from (option_copied l.bars.asked) (length l.names) l.bars.last l.bars.switches.now l.number (drop l.number l.names)) ≡ string_bytes l.fn.text ++
+    text_of (bars_from (option_copied l.bars.asked) (length l.names) l.bars.last l.bars.switches.now 0 l.names)

@@ -11,8 +11,8 @@ loop-place-preserved g c =
     elim c.match-at.branch [
       | in-Some+in_ok-put_event w ↦
           rw w.text-is
-          (piece_more c.args.history.now c.loop-place.place w.in-Some.event.now (event_lines (record { nodes = c.args.nodes.now; consoles = c.args.consoles.now }))
-          (event_line (record { nodes = c.args.nodes.now; consoles = c.args.consoles.now })) _ _ _ (λ y ys. refl) (omega arith) w.in-Some.ensures c.loop-place.invariant
+          (piece_more c.args.history.now c.loop-place.place w.in-Some.event.now (event_lines (record { nodes = c.args.cast.now.nodes.now; consoles = c.args.cast.now.consoles.now }))
+          (event_line (record { nodes = c.args.cast.now.nodes.now; consoles = c.args.cast.now.consoles.now })) _ _ _ (λ y ys. refl) (omega arith) w.in-Some.ensures c.loop-place.invariant
           w.in_ok-put_event.ensures)
       | in_default w ↦ absurd (no_gap c.args.history.now c.loop-place.place (omega arith) w.in_default.ensures)
     ]
