@@ -10,7 +10,7 @@ pub enum ExploreFault {
     TooManyStates { outcomes: usize },
     /// The joins and updates make more entries than a node may hold, so some order might be refused (`EntriesFull`).
     MayFill,
-    /// The remaining steps and the deliveries that may come a second time (`again` of `explore`) are more than 3,000
+    /// The remaining steps and the deliveries that may come a second time (`again` of the bounds) are more than 3,000
     /// together.
     TooManySteps,
     OutOfMemory,

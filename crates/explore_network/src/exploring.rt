@@ -18,6 +18,7 @@ ghost use Rattle.explore_network.specs.Walks.{AreApart, HasReason, IsOutcome, Is
 ghost use Rattle.explore_network.specs.Outcomes.{AllIsTold, BeginsWith, IsRecorded, Runs};
 
 use crate::asked::dots_of;
+use crate::bounds::Bounds;
 use crate::explore_fault::{ExploreFault, Stop, fault_of};
 use crate::outcome::Outcome;
 use crate::plan::{Plan, Steps};
@@ -29,7 +30,7 @@ use crate::turns::{ranks_of, turns_of};
 use crate::walk::{Tour, Walk, outcome_of, visit};
 use bench_core::{Bench, Cluster, Kept, NodeLimits};
 use change_core::copied;
-use network_rules::{Cone, Rank, Turn};
+use network_rules::{Cone, Rank, RecordedRun, Turn};
 use node_core::Oom;
 use progress_core::{Walked, Watch};
 use std::alloc::Allocator;
@@ -79,28 +80,24 @@ fn parts_of<'a, B: Allocator>(
     let turns = turns_of(steps, count, alloc)?;
     let ranks = ranks_of(steps, turns.as_slice(), alloc)?;
     let dots = dots_of(steps, count, limits, question, alloc)?;
-    let cone = cone_for(
+    let run = RecordedRun {
         steps,
-        dots,
-        turns.as_slice(),
-        ranks.as_slice(),
-        question.node(),
+        turns: turns.as_slice(),
+        ranks: ranks.as_slice(),
         count,
-        alloc,
-    )?;
+    };
+    let cone = cone_for(&run, dots, question.node(), alloc)?;
     Ok(Parts { turns, ranks, cone })
 }
 
 /// The plan for these steps. They must make no more entries than a node may hold, and the node that the question is
-/// about, if it names one, must be one of the `count` nodes. `lost`, `again` and `most` are those of `explore`.
+/// about, if it names one, must be one of the `count` nodes.
 fn plan_of<'a, B: Allocator>(
     steps: Steps<&'a B>,
     count: u16,
     limits: NodeLimits,
     question: &Question<&'a B>,
-    lost: usize,
-    again: usize,
-    most: usize,
+    bounds: Bounds,
     alloc: &'a B,
 ) -> Result<Plan<'a, B>, Oom>
     requires few { count ≤ most_names }
@@ -110,9 +107,9 @@ fn plan_of<'a, B: Allocator>(
     ensures limits { IfOk result (λ plan. plan.limits ≡ limits) }
     ensures count { IfOk result (λ plan. plan.count ≡ count) }
     ensures steps { IfOk result (λ plan. plan.steps ≡ steps.entry.items) }
-    ensures lost { IfOk result (λ plan. plan.lost ≡ lost) }
-    ensures again { IfOk result (λ plan. plan.again ≡ again) }
-    ensures most { IfOk result (λ plan. plan.most ≡ most) }
+    ensures lost { IfOk result (λ plan. plan.lost ≡ bounds.lost) }
+    ensures again { IfOk result (λ plan. plan.again ≡ bounds.again) }
+    ensures most { IfOk result (λ plan. plan.most ≡ bounds.states) }
     ensures plan { IfOk result (λ plan. (end : PlainCluster) → runs limits count steps.entry.items ≡ Ok end → IsPlan plan (plain question.now)) }
 {
     match parts_of(&steps, count, limits, question, alloc) {
@@ -122,9 +119,7 @@ fn plan_of<'a, B: Allocator>(
                 limits,
                 count,
                 steps,
-                lost,
-                again,
-                most,
+                bounds,
                 turns,
                 ranks,
                 cone,
@@ -249,31 +244,29 @@ fn explore_plan<'a, B: Allocator, W: Watch<Walked>>(
     }
 }
 
-/// Finds all outcomes of what the network could have made of the steps that remain, with up to `lost` deliveries
-/// missing and up to `again` that come a second time; the outcome of the recorded run comes first. The question's node
-/// must be there (see `is_there`). The walk may keep `most` states (`TooManyStates` if it needs more), and tells
-/// `watch` how far it has come. Before the walk begins, `explore` looks for `MayFill` first and then for
-/// `TooManySteps`.
+/// Finds all outcomes of what the network could have made of the steps that remain, within these bounds; the outcome of
+/// the recorded run comes first. The question's node must be there (see `is_there`). The walk tells `watch` how far it
+/// has come; it ends with `TooManyStates` if it needs more states than it may keep. Before the walk begins, `explore`
+/// looks for `MayFill` first and then for `TooManySteps`.
 pub fn explore<'a, B: Allocator, W: Watch<Walked>>(
     bench: &Bench<'a, B>,
     question: &Question<&'a B>,
-    lost: usize,
-    again: usize,
-    most: usize,
+    bounds: Bounds,
     alloc: &'a B,
     watch: &mut W,
 ) -> Result<Explored<'a, B>, ExploreFault>
     requires { IsThere (length bench.now.names) (plain question.now) }
-    ensures misses_nothing { IfOk result (λ e. MissesNothing bench.now (plain question.now) lost again e.outcomes.items) }
-    ensures invents_nothing { IfOk result (λ e. InventsNothing bench.now lost again e.outcomes.items) }
+    ensures misses_nothing { IfOk result (λ e. MissesNothing bench.now (plain question.now) bounds.lost bounds.again e.outcomes.items) }
+    ensures invents_nothing { IfOk result (λ e. InventsNothing bench.now bounds.lost bounds.again e.outcomes.items) }
     ensures distinct { IfOk result (λ e. AreDistinct (plain question.now) e.outcomes.items) }
     ensures first { IfOk result (λ e. BeginsAsRecorded bench.now e.outcomes.items) }
-    ensures most { IfOk result (λ e. e.states ≤ most) }
-    ensures too_many { (found : ℕ) → result ≡ Err (ExploreFault.TooManyStates found) → AreTooMany bench.now (plain question.now) lost again most found }
+    ensures most { IfOk result (λ e. e.states ≤ bounds.states) }
+    ensures too_many { (found : ℕ) → result ≡ Err (ExploreFault.TooManyStates found)
+        → AreTooMany bench.now (plain question.now) bounds.lost bounds.again bounds.states found }
     ensures may_fill { result ≡ Err ExploreFault.MayFill → (node_limits bench.now.limits).entries < made bench.now.state.remaining }
     ensures fills_not { IsOk result → made bench.now.state.remaining ≤ (node_limits bench.now.limits).entries }
-    ensures too_many_steps { result ≡ Err ExploreFault.TooManySteps → 3000 < length bench.now.state.remaining + again }
-    ensures few_steps { IsOk result → length bench.now.state.remaining + again ≤ 3000 }
+    ensures too_many_steps { result ≡ Err ExploreFault.TooManySteps → 3000 < length bench.now.state.remaining + bounds.again }
+    ensures few_steps { IsOk result → length bench.now.state.remaining + bounds.again ≤ 3000 }
     ensures watched { Watched W.told watch.old watch.new }
 {
     // form: hands out what the value keeps
@@ -285,12 +278,12 @@ pub fn explore<'a, B: Allocator, W: Watch<Walked>>(
         drop(steps);
         return Err(ExploreFault::MayFill);
     }
-    if steps.len() as u128 + again as u128 > MOST_STEPS {
+    if steps.len() as u128 + bounds.again as u128 > MOST_STEPS {
         drop(steps);
         return Err(ExploreFault::TooManySteps);
     }
     let count = bench.names().len() as u16;
-    let plan = plan_of(steps, count, limits, question, lost, again, most, alloc)?;
+    let plan = plan_of(steps, count, limits, question, bounds, alloc)?;
     let explored = explore_plan(&plan, question, alloc, watch);
     drop(plan);
     match explored {

@@ -8,12 +8,13 @@
 //! The modules in reading order: `question`, `shown` and `outcome`, what counts as the same outcome; `turns`, the turn
 //! to which each step belongs, and `counts`, how many steps of each turn came; `playing`, runs that are played;
 //! `steps`, how many entries steps make, and the places of steps; `asked`, which dots a question is about, and
-//! `rounds`, which names matter where; `plan`, what all runs have in common; `table`, the states that the walk is done
-//! with; `first`, the step that can be taken first; `explore_fault`, why there are no outcomes; `walk`, the walk over
-//! all runs; `exploring`, the whole search.
+//! `rounds`, which names matter where; `bounds`, how far an exploration may go; `plan`, what all runs have in common;
+//! `table`, the states that the walk is done with; `first`, the step that can be taken first; `explore_fault`, why there
+//! are no outcomes; `walk`, the walk over all runs; `exploring`, the whole search.
 #![tactic(auto)]
 
 mod asked;
+mod bounds;
 mod counts;
 mod explore_fault;
 mod exploring;
@@ -29,6 +30,7 @@ mod table;
 mod turns;
 mod walk;
 
+pub use bounds::Bounds;
 pub use explore_fault::ExploreFault;
 pub use exploring::{Explored, explore};
 pub use outcome::Outcome;

@@ -1,6 +1,7 @@
 //! `Plan`: what all runs of the network have in common.
 ghost use Rattle.std.specs.Prelude.{◌≡◌, ◌≤◌};
 
+use crate::bounds::Bounds;
 use bench_core::{Kept, NodeLimits};
 use network_rules::{Cone, Rank, Turn};
 use std::alloc::Allocator;
@@ -15,12 +16,7 @@ pub(crate) struct Plan<'a, B: Allocator> {
     pub(crate) count: u16,
     /// The recorded steps.
     pub(crate) steps: Steps<&'a B>,
-    /// How many deliveries may be missing from a run.
-    pub(crate) lost: usize,
-    /// How many deliveries may come a second time in a run.
-    pub(crate) again: usize,
-    /// How many states the walk may keep.
-    pub(crate) most: usize,
+    pub(crate) bounds: Bounds,
     pub(crate) turns: Vec<Turn, &'a B>,
     pub(crate) ranks: Vec<Rank, &'a B>,
     pub(crate) cone: Cone<'a, B>,
@@ -37,9 +33,9 @@ impl<'a, B: Allocator> Model for Plan<'a, B> {
       limits = p.limits;
       count = p.count;
       steps = p.steps.items;
-      lost = p.lost;
-      again = p.again;
-      most = p.most;
+      lost = p.bounds.lost;
+      again = p.bounds.again;
+      most = p.bounds.states;
       turns = p.turns.items;
       ranks = p.ranks.items;
       tables = p.cone;
@@ -66,22 +62,25 @@ impl<'a, B: Allocator> Plan<'a, B> {
         self.steps.as_slice()
     }
 
+    /// How many deliveries may be missing from a run.
     pub(crate) fn lost(&self) -> usize
         ensures { result ≡ self.now.lost }
     {
-        self.lost
+        self.bounds.lost
     }
 
+    /// How many deliveries may come a second time in a run.
     pub(crate) fn again(&self) -> usize
         ensures { result ≡ self.now.again }
     {
-        self.again
+        self.bounds.again
     }
 
+    /// How many states the walk may keep.
     pub(crate) fn most(&self) -> usize
         ensures { result ≡ self.now.most }
     {
-        self.most
+        self.bounds.states
     }
 
     pub(crate) fn turns(&self) -> &[Turn]

@@ -9,7 +9,7 @@ ghost use Rattle.network_rules.specs.Tables.{AreAllAsked, IsClosed};
 use crate::turns::sent;
 use bench_core::Kept;
 use dots_core::{Dot, NameSet};
-use network_rules::{Cone, Rank, Rows, Turn, all_names, cone_of, delivery, recorded, said};
+use network_rules::{Cone, Rank, RecordedRun, Rows, all_names, cone_of, delivery, recorded, said};
 use node_core::Oom;
 use std::alloc::Allocator;
 
@@ -172,35 +172,33 @@ fn row<'a, B: Allocator>(
     Ok(row)
 }
 
-/// The names that matter to each of the first `count` nodes: a set before the node's own steps, and one after each of
-/// them.
+/// The names that matter to each node: a set before the node's own steps, and one after each of them.
 fn rows_of_nodes<'a, B: Allocator>(
+    run: &RecordedRun<'a, '_, B>,
     matters: &[NameSet],
     width: usize,
-    turns: &[Turn],
-    count: u16,
     alloc: &'a B,
 ) -> Result<Rows<&'a B>, Oom> {
     let mut rows = Vec::new(alloc);
-    for node in 0..count {
+    for node in 0..run.count {
         // form: saturating spares a requirement
-        let own = recorded(turns, node).saturating_add(1);
+        let own = recorded(run.turns, node).saturating_add(1);
         rows.push(row(matters, index(width, node, 0), own, alloc)?)?;
     }
     Ok(rows)
 }
 
-/// The names that matter in messages: for each of the first `count` nodes a set for each message that it sends.
+/// The names that matter in messages: for each node a set for each message that it sends.
 fn rows_of_messages<'a, B: Allocator>(
-    steps: &[Kept<&'a B>],
+    run: &RecordedRun<'a, '_, B>,
     carries: &[NameSet],
     width: usize,
-    count: u16,
     alloc: &'a B,
 ) -> Result<Rows<&'a B>, Oom> {
     let mut rows = Vec::new(alloc);
-    for node in 0..count {
-        rows.push(row(carries, index(width, node, 0), sent(steps, node), alloc)?)?;
+    for node in 0..run.count {
+        let sent = sent(run.steps, node);
+        rows.push(row(carries, index(width, node, 0), sent, alloc)?)?;
     }
     Ok(rows)
 }
@@ -213,45 +211,37 @@ struct Found<A: Allocator> {
 }
 
 /// Makes the rounds for a question about the node `asked`, or about all nodes if `asked` is `None`, and gives what they
-/// find. `count` is the number of nodes.
+/// find.
 fn rows_found<'a, B: Allocator>(
-    steps: &[Kept<&'a B>],
-    turns: &[Turn],
-    ranks: &[Rank],
+    run: &RecordedRun<'a, '_, B>,
     asked: Option<u16>,
-    count: u16,
     alloc: &'a B,
 ) -> Result<Found<&'a B>, Oom> {
     // form: saturating spares a requirement
-    let width = steps.len().saturating_add(1);
-    let mut matters = begun(width, asked, count, alloc)?;
-    let size = (count as usize).saturating_mul(width);
+    let width = run.steps.len().saturating_add(1);
+    let mut matters = begun(width, asked, run.count, alloc)?;
+    let size = (run.count as usize).saturating_mul(width);
     let mut carries = vec![in alloc; NameSet::empty(); size]?;
-    close(&mut matters, &mut carries, width, steps, ranks);
-    let matters = rows_of_nodes(&matters, width, turns, count, alloc)?;
-    let carries = rows_of_messages(steps, &carries, width, count, alloc)?;
+    close(&mut matters, &mut carries, width, run.steps, run.ranks);
+    let matters = rows_of_nodes(run, &matters, width, alloc)?;
+    let carries = rows_of_messages(run, &carries, width, alloc)?;
     Ok(Found { matters, carries })
 }
 
 /// The cone of these dots, for a question about the node `asked`, or about all nodes if `asked` is `None`: the names
 /// that matter at each node and in each message, as the rounds found them. In it all names matter if the rounds left
-/// any out, which `cone_of` checks. `count` is the number of nodes.
+/// any out, which `cone_of` checks.
 pub(crate) fn cone_for<'a, B: Allocator>(
-    steps: &[Kept<&'a B>],
+    run: &RecordedRun<'a, '_, B>,
     dots: Vec<Dot, &'a B>,
-    turns: &[Turn],
-    ranks: &[Rank],
     asked: Option<u16>,
-    count: u16,
     alloc: &'a B,
 ) -> Result<Cone<'a, B>, Oom>
     requires { AllByRecursion (λ (d : PlainDot). d.name < most_names) dots.items }
     ensures dots { IfOk result (λ cone. cone.dots ≡ dots.entry.items) }
-    ensures closed { IfOk result (IsClosed steps.now ranks.now) }
-    ensures asked { IfOk result (AreAllAsked turns.now count asked) }
+    ensures closed { IfOk result (IsClosed run.now.steps.now run.now.ranks.now) }
+    ensures asked { IfOk result (AreAllAsked run.now.turns.now run.now.count asked) }
 {
-    let Found { matters, carries } = rows_found(steps, turns, ranks, asked, count, alloc)?;
-    Ok(cone_of(
-        steps, dots, matters, carries, turns, ranks, asked, count, alloc,
-    ))
+    let Found { matters, carries } = rows_found(run, asked, alloc)?;
+    Ok(cone_of(run, dots, matters, carries, asked, alloc))
 }

@@ -21,7 +21,7 @@ use crate::playing::{ask, lead_back, played};
 use crate::question::Question;
 use crate::table::Table;
 use bench_core::{Cluster, Kept};
-use network_rules::{Key, extend, is_end, is_next, key_of, run_of};
+use network_rules::{Key, RecordedRun, State, extend, is_end, is_next, key_of, run_of};
 use node_core::Oom;
 use progress_core::{Walked, Watch};
 use std::alloc::Allocator;
@@ -44,6 +44,14 @@ pub(crate) struct Walk<'a, B: Allocator> {
     /// The keys of the states from which the walk has found all outcomes.
     pub(crate) settled: Table<'a, B>,
     pub(crate) outcomes: Vec<Outcome<'a, B>, &'a B>,
+}
+
+/// The step that the walk took last.
+#[derive(Drop)]
+struct LastStep<'a, 't, B: Allocator> {
+    kept: &'t Kept<&'a B>,
+    /// The step's place among the recorded steps.
+    place: usize,
 }
 
 /// Adds the path's outcome to the walk's outcomes, unless one of these shows the same to the question.
@@ -103,55 +111,50 @@ fn tell_end<'a, B: Allocator>(
     tell(tour, walk)
 }
 
-/// The key of the state in which the walk stands: `cluster` and `counts` are those of that state.
+/// The key of a state of the walk.
 fn key_at<'a, B: Allocator>(
     tour: &Tour<'a, '_, B>,
-    cluster: &Cluster<'a, B>,
-    counts: &[usize],
+    state: &State<'a, '_, B>,
 ) -> Result<Key<&'a B>, Oom>
     ensures { IfOk result (λ key. key.items ≡ key_of tour.now.plan.now.tables tour.now.plan.now.count tour.now.plan.now.steps tour.now.plan.now.ranks
-        counts.now cluster.now) }
+        state.now.counts.now state.now.cluster.now) }
 {
     let plan = tour.plan;
-    key_of(
-        plan.cone(),
-        cluster,
-        plan.steps(),
-        plan.ranks(),
-        counts,
-        plan.count(),
-        tour.alloc,
-    )
+    let run = RecordedRun {
+        steps: plan.steps(),
+        turns: plan.turns(),
+        ranks: plan.ranks(),
+        count: plan.count(),
+    };
+    key_of(plan.cone(), &run, state, tour.alloc)
 }
 
-/// Goes on after the step `kept`, which stands at `place` and was just taken: puts the place on the path, visits the
-/// state after the step unless `left` is 0, and takes the place off the path again. `counts` and `left` are those
-/// before the step.
+/// Goes on after the step `taken`: puts its place on the path, visits the state after the step unless `left` is 0, and
+/// takes the place off the path again. `counts` and `left` are those before the step.
 #[cycle(visit)]
 fn onward<'a, B: Allocator, W: Watch<Walked>>(
     tour: &Tour<'a, '_, B>,
     walk: &mut Walk<'a, B>,
     counts: &[usize],
-    kept: &Kept<&'a B>,
-    place: usize,
+    taken: &LastStep<'a, '_, B>,
     left: u128,
     watch: &mut W,
 ) -> Result<(), Stop>
     requires plan { IsPlan tour.now.plan.now (plain tour.now.question.now) }
     requires keeps { Keeps tour.now.plan.now (plain tour.now.question.now) walk.old.settled walk.old.outcomes.items }
-    requires behind { IsBehind tour.now.plan.now walk.old.path.items place kept.now counts.now walk.old.cluster }
+    requires behind { IsBehind tour.now.plan.now walk.old.path.items taken.now.place taken.now.kept.now counts.now walk.old.cluster }
     requires left { length (steps_at tour.now.plan.now.steps walk.old.path.items) + left ≡ length tour.now.plan.now.steps + tour.now.plan.now.again }
     ensures cluster { OnOk result (walk.new.cluster ≡ walk.old.cluster) }
     ensures path { OnOk result (walk.new.path.items ≡ walk.old.path.items) }
     ensures went { OnOk result (Went tour.now.plan.now (plain tour.now.question.now) walk.old.outcomes.items walk.new.settled walk.new.outcomes.items) }
     ensures told { OnOk result (IsTold tour.now.plan.now (plain tour.now.question.now) walk.new.outcomes.items
-        (steps_at tour.now.plan.now.steps walk.old.path.items ++ kept.now ∷ [])) }
+        (steps_at tour.now.plan.now.steps walk.old.path.items ++ taken.now.kept.now ∷ [])) }
     ensures stops { IfErr result (HasReason tour.now.plan.now (plain tour.now.question.now)) }
     ensures watched { Watched W.told watch.old watch.new }
 {
-    extend(&mut walk.path, place)?;
+    extend(&mut walk.path, taken.place)?;
     if left > 0 {
-        let counts = counted(kept, tour.plan.turns(), counts, tour.alloc)?;
+        let counts = counted(taken.kept, tour.plan.turns(), counts, tour.alloc)?;
         visit(tour, walk, &counts, left - 1, watch)?;
     }
     let _ = walk.path.pop();
@@ -186,7 +189,8 @@ fn through<'a, B: Allocator, W: Watch<Walked>>(
     let Some(inverse) = ask(&mut walk.cluster, kept)? else {
         return Ok(false);
     };
-    match onward(tour, walk, counts, kept, place, left, watch) {
+    let taken = LastStep { kept, place };
+    match onward(tour, walk, counts, &taken, left, watch) {
         Ok(()) => {
             lead_back(&mut walk.cluster, kept.node, inverse)?;
             Ok(true)
@@ -270,7 +274,11 @@ fn go_first<'a, B: Allocator, W: Watch<Walked>>(
     ensures stops { IfErr result (HasReason tour.now.plan.now (plain tour.now.question.now)) }
     ensures watched { Watched W.told watch.old watch.new }
 {
-    match first(tour.plan, &walk.cluster, counts) {
+    let state = State {
+        cluster: &walk.cluster,
+        counts,
+    };
+    match first(tour.plan, &state) {
         Some(place) => through(tour, walk, counts, place, left, watch),
         None => Ok(false),
     }
@@ -320,7 +328,11 @@ fn tell_once<'a, B: Allocator, W: Watch<Walked>>(
     ensures stops { IfErr result (HasReason tour.now.plan.now (plain tour.now.question.now)) }
     ensures watched { Watched W.told watch.old watch.new }
 {
-    let key = key_at(tour, &walk.cluster, counts)?;
+    let state = State {
+        cluster: &walk.cluster,
+        counts,
+    };
+    let key = key_at(tour, &state)?;
     if walk.settled.has(&key) {
         return Ok(());
     }

@@ -10,7 +10,7 @@ use crate::report_fault::{ReportFault, fault_of};
 use crate::run_text::script_of;
 use crate::telling::tell;
 use bench_core::Bench;
-use explore_network::{Explored, Outcome, Question as Plain, explore};
+use explore_network::{Bounds, Explored, Outcome, Question as Plain, explore};
 use progress_core::{Walked, Watch};
 use std::alloc::Allocator;
 
@@ -29,15 +29,14 @@ fn explored<'a, B: Allocator, W: Watch<Walked>>(
     ensures refused { IfErr result (StopsShort bench.now question.entry (plain asked.now)) }
     ensures watched { Watched W.told watch.old watch.new }
 {
-    let Question {
-        about: _,
-        lost,
-        again,
-        states,
-    } = question;
-    match explore(bench, asked, lost, again, states, alloc, watch) {
+    let bounds = Bounds {
+        lost: question.lost,
+        again: question.again,
+        states: question.states,
+    };
+    match explore(bench, asked, bounds, alloc, watch) {
         Ok(explored) => Ok(explored),
-        Err(fault) => Err(fault_of(fault, states)),
+        Err(fault) => Err(fault_of(fault, bounds.states)),
     }
 }
 

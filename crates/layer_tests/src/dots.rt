@@ -1,5 +1,6 @@
 //! Dots, sets of names and sets of dots.
 ghost use Rattle.std.specs.Prelude.{◌<◌};
+ghost use Rattle.dots_core.specs.Names.{most_names};
 
 use crate::cases::{holds, holds_at};
 use dots_core::{Dot, DotSet, NameSet, Oom, laws};
@@ -123,7 +124,7 @@ fn has_copy<A: Allocator + Copy>(rt: &impl Abort, dots: &DotSet<A>) -> bool {
 
 /// Whether these are the context clock and the cloud of the name.
 fn is_seen<A: Allocator>(dots: &DotSet<A>, name: u16, clock: u64, cloud: &[u64]) -> bool
-    requires { name < 32 }
+    requires { name < most_names }
 {
     dots.clock_of(name) == clock && dots.cloud_of(name) == cloud
 }

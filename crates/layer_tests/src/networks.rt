@@ -5,7 +5,7 @@ use crate::benches::{Heap, limits_of, played};
 use crate::wide;
 use bench_core::{Bench, Cluster, Limits};
 use dots_core::Dot;
-use explore_network::{ExploreFault, Explored, Outcome, Question, explore};
+use explore_network::{Bounds, ExploreFault, Explored, Outcome, Question, explore};
 use payload_core::Word;
 use progress_core::{Silent, Walked, Watch};
 use std::process::Abort;
@@ -157,19 +157,25 @@ fn presence<'a>(node: u16, key: &str, heap: &'a Heap, rt: &impl Abort) -> Questi
     Question::Presence { node, topic, key }
 }
 
-/// What an exploration of the bench gives. `changes` has how many deliveries may be lost and how many may come again;
-/// `most` is how many states may be kept.
+/// Bounds in which no delivery is lost and none comes again, and in which so many states may be kept.
+fn within(states: usize) -> Bounds {
+    Bounds {
+        lost: 0,
+        again: 0,
+        states,
+    }
+}
+
+/// What an exploration of the bench gives.
 fn explored<'a>(
     bench: &mut Bench<'a, Heap>,
     asked: &Question<&'a Heap>,
-    changes: (usize, usize),
-    most: usize,
+    bounds: Bounds,
     heap: &'a Heap,
     rt: &impl Abort,
 ) -> Result<Explored<'a, Heap>, ExploreFault> {
     assert!(rt; asked.is_there(bench.names().len()), "a node");
-    let (lost, again) = changes;
-    explore(bench, asked, lost, again, most, heap, &mut Silent)
+    explore(bench, asked, bounds, heap, &mut Silent)
 }
 
 /// Whether the outcomes have these runs, in this order, and there are no other outcomes.
@@ -189,7 +195,12 @@ fn has_runs<'a>(explored: &Explored<'a, Heap>, runs: &[&[usize]]) -> bool {
 fn case_holds(case: &Case, heap: &Heap, rt: &impl Abort) {
     let mut bench = played(case.text, Limits::usual(), heap, rt);
     let asked = presence(case.node, "x", heap, rt);
-    let told = explored(&mut bench, &asked, (case.lost, case.again), 1000, heap, rt);
+    let bounds = Bounds {
+        lost: case.lost,
+        again: case.again,
+        states: 1000,
+    };
+    let told = explored(&mut bench, &asked, bounds, heap, rt);
     drop(asked);
     drop(bench);
     holds!(rt, told.is_ok_and(|told| has_runs(&told, case.runs)));
@@ -260,7 +271,7 @@ fn standings_hold(told: &Standings, heap: &Heap, rt: &impl Abort) {
         Some(node) => Question::Node(node),
         None => Question::Cluster,
     };
-    let found = explored(&mut bench, &asked, (0, 0), 1000, heap, rt);
+    let found = explored(&mut bench, &asked, within(1000), heap, rt);
     drop(asked);
     drop(bench);
     holds!(rt, found.is_ok_and(|found| are_so(&found, told)));
@@ -278,8 +289,8 @@ fn replicas_come_out_by_what_the_network_does(rt: HostRuntime) {
 /// enough.
 fn keeps_four<'a>(bench: &mut Bench<'a, Heap>, heap: &'a Heap, rt: &impl Abort) {
     let asked = presence(1, "x", heap, rt);
-    let few = explored(bench, &asked, (0, 0), 3, heap, rt).err();
-    let enough = explored(bench, &asked, (0, 0), 4, heap, rt);
+    let few = explored(bench, &asked, within(3), heap, rt).err();
+    let enough = explored(bench, &asked, within(4), heap, rt);
     drop(asked);
     holds!(rt, few == Some(ExploreFault::TooManyStates { outcomes: 2 }));
     holds!(rt, enough.is_ok_and(|enough| enough.states == 4));
@@ -308,7 +319,7 @@ fn a_node_may_fill<'a>(heap: &'a Heap, rt: &impl Abort) {
         heap,
         rt,
     );
-    let fault = explored(&mut bench, &Question::Cluster, (0, 0), 1000, heap, rt).err();
+    let fault = explored(&mut bench, &Question::Cluster, within(1000), heap, rt).err();
     drop(bench);
     holds!(rt, fault == Some(ExploreFault::MayFill));
 }
@@ -328,7 +339,7 @@ fn a_wide_run_has_few_outcomes(rt: HostRuntime) {
     let mut bench = played(text.as_str(), Limits::usual(), &heap, &rt);
     drop(text);
     let asked = presence(1, "k130", &heap, &rt);
-    let told = explored(&mut bench, &asked, (0, 0), 1000, &heap, &rt);
+    let told = explored(&mut bench, &asked, within(1000), &heap, &rt);
     drop(asked);
     drop(bench);
     holds!(&rt, told.is_ok_and(|told| told.outcomes.len() == 2));
@@ -344,7 +355,7 @@ fn explore_refused<'a>(
 ) {
     for number in 1..10_000 {
         heap.refuse_only(number);
-        let fault = explored(bench, asked, (0, 0), 1000, heap, rt).err();
+        let fault = explored(bench, asked, within(1000), heap, rt).err();
         heap.refuse_none();
         match fault {
             None => return,
@@ -414,7 +425,7 @@ fn tells_seven<'a>(bench: &mut Bench<'a, Heap>, heap: &'a Heap, rt: &impl Abort)
         falls: false,
     };
     assert!(rt; asked.is_there(bench.names().len()), "a node");
-    let told = explore(bench, &asked, 0, 0, 1000, heap, &mut watch);
+    let told = explore(bench, &asked, within(1000), heap, &mut watch);
     drop(asked);
     holds!(rt, told.is_ok_and(|told| told.outcomes.len() == 2));
     holds!(rt, watch.calls == 7 && watch.states == 2 && !watch.falls);

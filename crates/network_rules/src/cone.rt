@@ -13,6 +13,7 @@ ghost use Rattle.network_rules.specs.declared.turn.Turn.{Turn as PlainTurn};
 ghost use Rattle.network_rules.specs.Tables.{asks, carried, in_row, is_wanted, matter, names_at, AreAllAsked, IsAsked, IsAskedAt, IsClosed, KeepsAt, Within};
 
 use crate::names::{all_names, common, is_within};
+use crate::recorded_run::RecordedRun;
 use crate::turn::{Rank, Turn, delivery};
 use bench_core::{Kept, Step};
 use dots_core::{Dot, NameSet};
@@ -260,29 +261,26 @@ fn is_falling(row: &[NameSet]) -> bool
 
 /// The cone of `dots`, from the names that a search found to matter at nodes (`matters`) and in messages (`carries`).
 /// The search isn't trusted: if `is_closed` or `are_asked` is false of what it found, the cone has all names
-/// everywhere. `asked` is the node that the question is about; `None` stands for all of the first `count` nodes.
+/// everywhere. `asked` is the node that the question is about; `None` stands for all nodes of the run.
 pub fn cone_of<'a, B: Allocator>(
-    steps: &[Kept<&'a B>],
+    run: &RecordedRun<'a, '_, B>,
     dots: Vec<Dot, &'a B>,
     matters: Rows<&'a B>,
     carries: Rows<&'a B>,
-    turns: &[Turn],
-    ranks: &[Rank],
     asked: Option<u16>,
-    count: u16,
     alloc: &'a B,
 ) -> Cone<'a, B>
     requires { AllByRecursion (λ (d : PlainDot). d.name < most_names) dots.items }
     ensures dots { result.dots ≡ dots.entry.items }
-    ensures closed { IsClosed steps.now ranks.now result }
-    ensures asked { AreAllAsked turns.now count asked result }
+    ensures closed { IsClosed run.now.steps.now run.now.ranks.now result }
+    ensures asked { AreAllAsked run.now.turns.now run.now.count asked result }
 {
     let cone = Cone {
         dots,
         matters,
         carries,
     };
-    if cone.is_closed(steps, ranks) && cone.are_asked(turns, count, asked) {
+    if cone.is_closed(run.steps, run.ranks) && cone.are_asked(run.turns, run.count, asked) {
         return cone;
     }
     let Cone {

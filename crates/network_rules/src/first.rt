@@ -8,6 +8,7 @@ ghost use Rattle.network_rules.specs.Easy.{BringsNone, IsEasyAt, IsIdleAt};
 use crate::cone::Cone;
 use crate::key::message_of;
 use crate::next::count_at;
+use crate::state::State;
 use crate::turn::Turn;
 use bench_core::{Cluster, Step};
 use dots_core::{Dot, NameSet};
@@ -77,29 +78,28 @@ fn brings_none<A: Allocator>(dots: &[Dot], message: &Payload<A>, names: NameSet,
     true
 }
 
-/// Whether the delivery of message `number` of `sender` at `node` brings no news of a dot that matters there (see
-/// `is_no_news`), and so would change nothing that matters. `turn` is the place of the delivery's turn. False if the
-/// message wasn't sent, there is no such turn, or all recorded deliveries of the turn came.
+/// Whether the delivery of `message`, given by its sender and number, at `node` brings no news of a dot that matters
+/// there (see `is_no_news`), and so would change nothing that matters. `turn` is the place of the delivery's turn. False
+/// if the message wasn't sent, there is no such turn, or all recorded deliveries of the turn came.
 pub fn is_idle<'a, B: Allocator>(
-    cluster: &Cluster<'a, B>,
+    state: &State<'a, '_, B>,
     cone: &Cone<'a, B>,
     turns: &[Turn],
-    counts: &[usize],
     node: u16,
     turn: usize,
-    sender: u16,
-    number: u64,
+    message: (u16, u64),
 ) -> bool
-    ensures { IsTrue result → IsIdleAt cluster.now cone.now turns.now counts.now node turn sender number }
+    ensures { IsTrue result → IsIdleAt state.now.cluster.now cone.now turns.now state.now.counts.now node turn message.0 message.1 }
 {
     let Some(found) = turns.get(turn) else {
         return false;
     };
-    if count_at(counts, turn) >= found.recorded {
+    if count_at(state.counts, turn) >= found.recorded {
         return false;
     }
-    let names = cone.matter(node, count_at(counts, node as usize));
-    match message_of(cluster, sender, number) {
+    let names = cone.matter(node, count_at(state.counts, node as usize));
+    let (sender, number) = message;
+    match message_of(state.cluster, sender, number) {
         Some(message) => brings_none(cone.dots(), message, names, node),
         None => false,
     }

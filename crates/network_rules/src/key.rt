@@ -9,6 +9,8 @@ ghost use Rattle.network_rules.specs.Standings.{standing_in};
 
 use crate::cone::Cone;
 use crate::next::count_at;
+use crate::recorded_run::RecordedRun;
+use crate::state::State;
 use crate::turn::Rank;
 use bench_core::{Cluster, Kept, Node, Step};
 use dots_core::{Dot, DotSet, NameSet};
@@ -150,15 +152,14 @@ fn sends_held<A: Allocator>(step: &Step<A>) -> bool
 fn put_nodes<'a, B: Allocator>(
     key: &mut Key<&'a B>,
     cone: &Cone<'a, B>,
-    cluster: &Cluster<'a, B>,
-    counts: &[usize],
+    state: &State<'a, '_, B>,
     count: u16,
 ) -> Result<(), Oom>
-    ensures { OnOk result (key.new.items ≡ key.old.items ++ answers cluster.now (queries_at_nodes cone.now counts.now count)) }
+    ensures { OnOk result (key.new.items ≡ key.old.items ++ answers state.now.cluster.now (queries_at_nodes cone.now state.now.counts.now count)) }
 {
     for node in 0..count {
-        let names = cone.matter(node, count_at(counts, node as usize));
-        put_node(key, cone.dots(), cluster, node, names)?;
+        let names = cone.matter(node, count_at(state.counts, node as usize));
+        put_node(key, cone.dots(), state.cluster, node, names)?;
     }
     Ok(())
 }
@@ -168,16 +169,23 @@ fn put_nodes<'a, B: Allocator>(
 fn put_sent<'a, B: Allocator>(
     key: &mut Key<&'a B>,
     cone: &Cone<'a, B>,
-    cluster: &Cluster<'a, B>,
-    counts: &[usize],
+    state: &State<'a, '_, B>,
     kept: &Kept<&'a B>,
     rank: Rank,
 ) -> Result<(), Oom>
-    ensures { OnOk result (key.new.items ≡ key.old.items ++ answers cluster.now (sent_queries cone.now counts.now (Some kept.now) (Some rank))) }
+    ensures { OnOk result (key.new.items ≡ key.old.items ++ answers state.now.cluster.now
+        (sent_queries cone.now state.now.counts.now (Some kept.now) (Some rank))) }
 {
-    if sends_held(&kept.step) && rank.before < count_at(counts, kept.node as usize) {
+    if sends_held(&kept.step) && rank.before < count_at(state.counts, kept.node as usize) {
         let names = cone.carried(kept.node, rank.number);
-        return put_message(key, cone.dots(), cluster, kept.node, rank.number, names);
+        return put_message(
+            key,
+            cone.dots(),
+            state.cluster,
+            kept.node,
+            rank.number,
+            names,
+        );
     }
     Ok(())
 }
@@ -186,54 +194,49 @@ fn put_sent<'a, B: Allocator>(
 fn put_place<'a, B: Allocator>(
     key: &mut Key<&'a B>,
     cone: &Cone<'a, B>,
-    cluster: &Cluster<'a, B>,
+    state: &State<'a, '_, B>,
     kept: &Kept<&'a B>,
     rank: Option<&Rank>,
-    counts: &[usize],
 ) -> Result<(), Oom>
-    ensures { OnOk result (key.new.items ≡ key.old.items ++ answers cluster.now
-        (sent_queries cone.now counts.now (Some kept.now) (option_map (λ r. r.now) rank.entry))) }
+    ensures { OnOk result (key.new.items ≡ key.old.items ++ answers state.now.cluster.now
+        (sent_queries cone.now state.now.counts.now (Some kept.now) (option_map (λ r. r.now) rank.entry))) }
 {
     match rank {
-        Some(rank) => put_sent(key, cone, cluster, counts, kept, *rank),
+        Some(rank) => put_sent(key, cone, state, kept, *rank),
         None => Ok(()),
     }
 }
 
-/// Appends how the dots that matter stand in the messages of those extracts and answers among `steps` that came (see
-/// `put_sent`).
+/// Appends how the dots that matter stand in the messages of those extracts and answers of the recorded run that came
+/// (see `put_sent`).
 fn put_messages<'a, B: Allocator>(
     key: &mut Key<&'a B>,
     cone: &Cone<'a, B>,
-    cluster: &Cluster<'a, B>,
-    steps: &[Kept<&'a B>],
-    ranks: &[Rank],
-    counts: &[usize],
+    run: &RecordedRun<'a, '_, B>,
+    state: &State<'a, '_, B>,
 ) -> Result<(), Oom>
-    ensures { OnOk result (key.new.items ≡ key.old.items ++ answers cluster.now
-        (queries_of_messages cone.now steps.now ranks.now counts.now (length steps.now))) }
+    ensures { OnOk result (key.new.items ≡ key.old.items ++ answers state.now.cluster.now
+        (queries_of_messages cone.now run.now.steps.now run.now.ranks.now state.now.counts.now (length run.now.steps.now))) }
 {
+    let steps = run.steps;
     for place in 0..steps.len() {
-        put_place(key, cone, cluster, &steps[place], ranks.get(place), counts)?;
+        put_place(key, cone, state, &steps[place], run.ranks.get(place))?;
     }
     Ok(())
 }
 
-/// The key of the state in which as many steps of each turn came as `counts` says, and whose cluster is `cluster`.
-/// `count` is the number of nodes.
+/// The key of a state that steps of the recorded run led to.
 pub fn key_of<'a, B: Allocator>(
     cone: &Cone<'a, B>,
-    cluster: &Cluster<'a, B>,
-    steps: &[Kept<&'a B>],
-    ranks: &[Rank],
-    counts: &[usize],
-    count: u16,
+    run: &RecordedRun<'a, '_, B>,
+    state: &State<'a, '_, B>,
     alloc: &'a B,
 ) -> Result<Key<&'a B>, Oom>
-    ensures { IfOk result (λ key. key.items ≡ key_of cone.now count steps.now ranks.now counts.now cluster.now) }
+    ensures { IfOk result (λ key. key.items ≡ key_of cone.now run.now.count run.now.steps.now run.now.ranks.now state.now.counts.now
+        state.now.cluster.now) }
 {
-    let mut key = Vec::from_slice(alloc, counts)?;
-    put_nodes(&mut key, cone, cluster, counts, count)?;
-    put_messages(&mut key, cone, cluster, steps, ranks, counts)?;
+    let mut key = Vec::from_slice(alloc, state.counts)?;
+    put_nodes(&mut key, cone, state, run.count)?;
+    put_messages(&mut key, cone, run, state)?;
     Ok(key)
 }

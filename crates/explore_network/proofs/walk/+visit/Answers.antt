@@ -60,19 +60,19 @@ onward-visit-requires g t c =
     let longer = c.in_ok-extend.ensures in
     let short = short_path p.steps path in
     let long = ap length longer in
-    let one = length-append path (c.args.place ∷ []) in
+    let one = length-append path (c.args.taken.now.place ∷ []) in
     let len = c.extend.new.path.ok in
     let cap = c.extend.new.path.small in
     let few : length (steps_at p.steps path) + 1 < 2 ^ 64 = omega (arith, short, long, one, len.0, len.1, cap) in
-    let counted : c.deref.result.now ≡ counts_of p.turns (steps_at p.steps path ++ c.args.kept.now ∷ []) =
+    let counted : c.deref.result.now ≡ counts_of p.turns (steps_at p.steps path ++ c.args.taken.now.kept.now ∷ []) =
     c.deref.ensures.value ∙ c.in_ok-counts.ensures (steps_at p.steps path) (c.requires.behind.at.counted ∙ ap (λ ts. counts_of ts (steps_at p.steps path)) (sym c.turns.ensures)) few
-    ∙ ap (λ ts. counts_of ts (steps_at p.steps path ++ c.args.kept.now ∷ [])) c.turns.ensures in
+    ∙ ap (λ ts. counts_of ts (steps_at p.steps path ++ c.args.taken.now.kept.now ∷ [])) c.turns.ensures in
     let ready : IsReady p q c.extend.new.path.items c.args.walk.now.cluster c.args.walk.now.settled c.args.walk.now.outcomes.items c.deref.result.now (c.args.left - 1) = record {
       plan = c.requires.plan;
       keeps = c.requires.keeps;
       at = subst (λ (l : List ℕ). IsAt p (steps_at p.steps l) c.deref.result.now c.args.walk.now.cluster) (sym longer)
-          (behind_at p q path c.args.place c.args.kept.now c.args.counts.now c.deref.result.now c.args.walk.now.cluster c.requires.plan c.requires.behind counted);
-      left = ap (λ (l : List ℕ). length (steps_at p.steps l) + (c.args.left - 1)) longer ∙ one_longer p path c.args.place c.args.left c.args.kept.now c.requires.behind.here c.requires.left c.if-left-gt0.true;
+          (behind_at p q path c.args.taken.now.place c.args.taken.now.kept.now c.args.counts.now c.deref.result.now c.args.walk.now.cluster c.requires.plan c.requires.behind counted);
+      left = ap (λ (l : List ℕ). length (steps_at p.steps l) + (c.args.left - 1)) longer ∙ one_longer p path c.args.taken.now.place c.args.left c.args.taken.now.kept.now c.requires.behind.here c.requires.left c.if-left-gt0.true;
     } in
     search (rules, ready)
 
@@ -82,9 +82,9 @@ onward-returns-clause-told g t c =
     let q = (plain c.args.tour.now.question.now) in
     let path = c.args.walk.now.path.items in
     elim c.if-left-gt0.branch [
-      | onward-then-left-gt0+in_ok-counts+in_ok-visit w ↦ subst (λ (os : List Outcome). IsTold p q os (steps_at p.steps path ++ c.args.kept.now ∷ [])) (sym (ap (λ x. x.outcomes.items) w.walk-is))
-          (onward_told p q w.visit.new.walk.outcomes.items path c.extend.new.path.items c.args.place c.args.kept.now c.requires.behind.here c.in_ok-extend.ensures w.in_ok-visit.ensures.told)
-      | onward-else-left-gt0 w ↦ none_left p q c.if-left-gt0.walk.outcomes.items (steps_at p.steps path) c.args.kept.now c.args.left c.requires.left w.if-left-gt0.false
+      | onward-then-left-gt0+in_ok-counts+in_ok-visit w ↦ subst (λ (os : List Outcome). IsTold p q os (steps_at p.steps path ++ c.args.taken.now.kept.now ∷ [])) (sym (ap (λ x. x.outcomes.items) w.walk-is))
+          (onward_told p q w.visit.new.walk.outcomes.items path c.extend.new.path.items c.args.taken.now.place c.args.taken.now.kept.now c.requires.behind.here c.in_ok-extend.ensures w.in_ok-visit.ensures.told)
+      | onward-else-left-gt0 w ↦ none_left p q c.if-left-gt0.walk.outcomes.items (steps_at p.steps path) c.args.taken.now.kept.now c.args.left c.requires.left w.if-left-gt0.false
     ]
 
 pub tell_all-returns-clause-went : goal.tell_all-returns-clause-went

@@ -10,7 +10,7 @@ pub returns-in-Some-message_of : goal.returns-in-Some-message_of
 returns-in-Some-message_of g c = λ h.
     let t = c.args.cone.now in
     let n = c.args.node in
-    let names : c.matter-names.result ≡ matter t n (count_at c.args.counts.now n) = c.matter-names.ensures ∙ ap (matter t n) c.count_at-2.ensures in
+    let names : c.matter-names.result ≡ matter t n (count_at c.args.state.now.counts.now n) = c.matter-names.ensures ∙ ap (matter t n) c.count_at-2.ensures in
     record {
       turn = c.in-Some.found.now;
       found = sym (looked_up c.get.result c.args.turns.now c.args.turn c.get.ensures.lookup.0 c.get.ensures.lookup.1) ∙ ap option_copied c.in-Some.is;

@@ -6,13 +6,13 @@ use Rattle.network_rules.proofs.key.put_nodes.Goals as goal
 
 pub loop-node-init : goal.loop-node-init
 unfolding queries_at_nodes
-loop-node-init g c = asked_none c.args.cluster.now c.args.key.now.items
+loop-node-init g c = asked_none c.args.state.now.cluster.now c.args.key.now.items
 
 pub loop-node-preserved : goal.loop-node-preserved
 unfolding queries_at_nodes
 loop-node-preserved g c =
     let t = c.args.cone.now in
     let n = c.loop-node.node in
-    asked_more c.args.cluster.now c.args.key.now.items c.loop-node.key.items c.put_node.new.key.items (queries_at_nodes t c.args.counts.now n) _ _
+    asked_more c.args.state.now.cluster.now c.args.key.now.items c.loop-node.key.items c.put_node.new.key.items (queries_at_nodes t c.args.state.now.counts.now n) _ _
     c.loop-node.invariant c.in_ok-put_node.ensures
-    (ap (queries_at_nodes t c.args.counts.now) (add-one n) ∙ (λ i. queries_at_nodes t c.args.counts.now n ++ node_queries (sym c.dots.ensures i) n (sym (c.matter-names.ensures ∙ ap (matter t n) c.count_at.ensures) i) (length (sym c.dots.ensures i))))
+    (ap (queries_at_nodes t c.args.state.now.counts.now) (add-one n) ∙ (λ i. queries_at_nodes t c.args.state.now.counts.now n ++ node_queries (sym c.dots.ensures i) n (sym (c.matter-names.ensures ∙ ap (matter t n) c.count_at.ensures) i) (length (sym c.dots.ensures i))))

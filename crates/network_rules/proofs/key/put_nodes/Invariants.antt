@@ -4,4 +4,4 @@ use Rattle.network_rules.proofs.key.put_nodes.Given as goal
 
 -- at the first nodes
 abbrev pub invariant-loop-node : goal.invariant-loop-node
-invariant-loop-node g l = l.key.items ≡ l.fn.key.items ++ answers l.cluster (queries_at_nodes l.cone l.counts l.node)
+invariant-loop-node g l = l.key.items ≡ l.fn.key.items ++ answers l.state.cluster.now (queries_at_nodes l.cone l.state.counts.now l.node)
