@@ -1,6 +1,6 @@
 //! Says whether a case comes out as it says, and prints what differs.
 use crate::case::Case;
-use program_core::program_within;
+use program_core::{Host, Setting, program_within};
 use progress_core::FakeClock;
 use script_core::{FakeReader, FakeWriter};
 use std::io;
@@ -26,18 +26,17 @@ fn run_case<T: Threads + Wait + Sync>(rt: &HostRuntime, threads: &T, case: &Case
     let mut output = FakeWriter::new(heap, case.room);
     let mut errors = FakeWriter::new(heap, usize::MAX);
     let clock = FakeClock::new(0);
-    let status = program_within(
-        threads,
-        heap,
-        &heap,
-        &case.words,
-        &mut reader,
-        &mut output,
-        &mut errors,
-        case.limits,
-        case.terminal,
-        &clock,
-    );
+    let setting = Setting {
+        host: Host {
+            threads,
+            heap,
+            alloc: &heap,
+            clock: &clock,
+        },
+        limits: case.limits,
+        terminal: case.terminal,
+    };
+    let status = program_within(&setting, &case.words, &mut reader, &mut output, &mut errors);
     Ended {
         status,
         output,

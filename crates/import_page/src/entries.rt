@@ -10,7 +10,7 @@ ghost use Rattle.import_page.specs.Entries.{AreEntries, IsAskedTold, IsEntry, he
 use crate::rows::put_listed;
 use crate::times::time_on;
 use bench_core::{Act, Bench, Step};
-use import_core::Noted;
+use import_core::{Import, Noted};
 use import_report::{asked, play};
 use page_data::{put_comma, put_number_key, put_text_key};
 use payload_core::Oom;
@@ -111,51 +111,66 @@ fn put_told<'a, B: Allocator>(
     }
 }
 
+/// What the events of logs make while they are played.
+#[derive(Drop)]
+pub(crate) struct Playback<'a, B: Allocator> {
+    /// The bench on which they are played.
+    pub(crate) bench: Bench<'a, B>,
+    /// The number of each message in its sender's outbox, as in `play`.
+    pub(crate) numbers: Vec<u64, &'a B>,
+    /// The JSON objects of the events, separated by commas.
+    pub(crate) entries: String<&'a B>,
+}
+
 /// Plays the event that is at `place` in the order, and appends its JSON object: its line number, its time if its line
 /// has one, and what it tells (see `put_told`), with a comma in front unless `place` is 0.
 fn put_entry<'a, B: Allocator>(
-    bench: &mut Bench<'a, B>,
-    text: &mut String<&'a B>,
-    numbers: &mut [u64],
+    playback: &mut Playback<'a, B>,
     heap: Global,
     lines: &[&[u8]],
     place: usize,
     note: &Noted<&'a B>,
     alloc: &'a B,
 ) -> Result<(), Oom>
-    ensures told { OnOk result ((told : List ℕ) × (string_bytes text.new ≡ string_bytes text.old ++ told)
-        × IsEntry (map (λ line. line.now) lines.now) (record { machine = bench.old; numbers = numbers.old }) place (note_of note.now) told) }
-    ensures bench { OnOk result (bench.new ≡ (after_event (record { machine = bench.old; numbers = numbers.old }) (note_of note.now)).machine) }
-    ensures numbers { OnOk result (numbers.new ≡ (after_event (record { machine = bench.old; numbers = numbers.old }) (note_of note.now)).numbers) }
+    ensures told { OnOk result ((told : List ℕ) × (string_bytes playback.new.entries ≡ string_bytes playback.old.entries ++ told)
+        × IsEntry (map (λ line. line.now) lines.now) (record { machine = playback.old.bench; numbers = playback.old.numbers.items })
+        place (note_of note.now) told) }
+    ensures bench { OnOk result (playback.new.bench ≡
+        (after_event (record { machine = playback.old.bench; numbers = playback.old.numbers.items }) (note_of note.now)).machine) }
+    ensures numbers { OnOk result (playback.new.numbers.items ≡
+        (after_event (record { machine = playback.old.bench; numbers = playback.old.numbers.items }) (note_of note.now)).numbers) }
 {
+    let Playback {
+        bench,
+        numbers,
+        entries,
+    } = playback;
     let time = time_on(heap, line_of(lines, note.number))?;
-    put_head(text, place, note.number, &time)?;
-    put_told(bench, text, numbers, note, alloc)?;
-    Ok(text.push_str("}")?)
+    put_head(entries, place, note.number, &time)?;
+    put_told(bench, entries, numbers, note, alloc)?;
+    Ok(entries.push_str("}")?)
 }
 
-/// Plays the events in this order, and appends the JSON object of each (see `put_entry`). `lines` are those of the
-/// logs, `order` has the places of the events in `notes`, and `numbers` is as in `play`.
+/// Plays the events of an import in their order, and appends the JSON object of each (see `put_entry`). `lines` are
+/// those of the logs.
 pub(crate) fn put_entries<'a, B: Allocator>(
-    bench: &mut Bench<'a, B>,
-    text: &mut String<&'a B>,
-    numbers: &mut [u64],
+    playback: &mut Playback<'a, B>,
     heap: Global,
     lines: &[&[u8]],
-    notes: &[Noted<&'a B>],
-    order: &[usize],
+    import: &Import<&'a B>,
     alloc: &'a B,
 ) -> Result<(), Oom>
-    requires { All (λ place. place < length notes.now) order.now }
-    ensures told { OnOk result ((told : List ℕ) × (string_bytes text.new ≡ string_bytes text.old ++ told)
-        × AreEntries (map (λ line. line.now) lines.now) (record { machine = bench.old; numbers = numbers.old }) 0
-        (in_order (map note_of notes.now) order.now) told) }
-    ensures bench { OnOk result (bench.new ≡
-        (after_events (record { machine = bench.old; numbers = numbers.old }) (in_order (map note_of notes.now) order.now)).machine) }
+    requires { All (λ place. place < length import.now.notes.items) import.now.order.items }
+    ensures told { OnOk result ((told : List ℕ) × (string_bytes playback.new.entries ≡ string_bytes playback.old.entries ++ told)
+        × AreEntries (map (λ line. line.now) lines.now) (record { machine = playback.old.bench; numbers = playback.old.numbers.items }) 0
+        (in_order (map note_of import.now.notes.items) import.now.order.items) told) }
+    ensures bench { OnOk result (playback.new.bench ≡
+        (after_events (record { machine = playback.old.bench; numbers = playback.old.numbers.items })
+        (in_order (map note_of import.now.notes.items) import.now.order.items)).machine) }
 {
-    for (index, place) in order.iter().enumerate() {
-        let note = &notes[*place];
-        put_entry(bench, text, numbers, heap, lines, index, note, alloc)?;
+    for (index, place) in import.order.iter().enumerate() {
+        let note = &import.notes[*place];
+        put_entry(playback, heap, lines, index, note, alloc)?;
     }
     Ok(())
 }

@@ -11,7 +11,7 @@ ghost use Rattle.import_report.specs.Scripts.{in_order};
 ghost use Rattle.import_page.specs.Entries.{AreEntries};
 ghost use Rattle.import_page.specs.Keys.{IsShownOf, keys_text, start_of};
 
-use crate::entries::put_entries;
+use crate::entries::{Playback, put_entries};
 use bench_core::{Bench, Limits};
 use import_core::{Import, ImportFault, Tables, imported, left_out_of, lines_of};
 use import_report::{shown_names, zeros};
@@ -50,42 +50,37 @@ fn keys_text<A: Allocator + Copy>(
     Ok(keys)
 }
 
-/// Plays the events of an import on a fresh bench. Gives the bench, and the text of the JSON objects that tell of the
-/// events (see `put_entries`).
+/// Plays the events of an import on a fresh bench (see `put_entries`).
 fn played<'a, B: Allocator>(
     import: &Import<&'a B>,
     heap: Global,
     alloc: &'a B,
     limits: Limits,
     bytes: &[u8],
-) -> Result<(Bench<'a, B>, String<&'a B>), Oom>
+) -> Result<Playback<'a, B>, Oom>
     requires some { 0 < length import.now.tables.nodes }
     requires few { length import.now.tables.nodes ≤ most_names }
     requires places { All (λ place. place < length import.now.notes.items) import.now.order.items }
-    ensures bench { IfOk result (λ p. p.0 ≡
+    ensures bench { IfOk result (λ p. p.bench ≡
         (after_events (start_of limits (all_of import.now.tables)) (in_order (map note_of import.now.notes.items) import.now.order.items)).machine) }
     ensures told { IfOk result (λ p. AreEntries (lines_of bytes.now) (start_of limits (all_of import.now.tables)) 0
-        (in_order (map note_of import.now.notes.items) import.now.order.items) (string_bytes p.1)) }
+        (in_order (map note_of import.now.notes.items) import.now.order.items) (string_bytes p.entries)) }
 {
     let names = shown_names(alloc, &import.tables.nodes)?;
     let lines = lines_of(alloc, bytes)?;
-    let mut numbers = zeros(alloc, import.tables.messages.len())?;
-    let mut entries = String::new(alloc);
-    let mut bench = Bench::new(alloc, names, limits)?;
-    let put = put_entries(
-        &mut bench,
-        &mut entries,
-        &mut numbers,
-        heap,
-        &lines,
-        &import.notes,
-        &import.order,
-        alloc,
-    );
-    match put {
-        Ok(()) => Ok((bench, entries)),
+    let numbers = zeros(alloc, import.tables.messages.len())?;
+    let entries = String::new(alloc);
+    let bench = Bench::new(alloc, names, limits)?;
+    let mut playback = Playback {
+        bench,
+        numbers,
+        entries,
+    };
+    match put_entries(&mut playback, heap, &lines, import, alloc) {
+        Ok(()) => Ok(playback),
         Err(oom) => {
             // form: drop before exit
+            let Playback { bench, .. } = playback;
             bench.discard();
             Err(oom)
         }
@@ -109,7 +104,7 @@ fn shown_of<'a, B: Allocator>(
         (in_order (map note_of import.now.notes.items) import.now.order.items) entries
         × (string_bytes s.keys ≡ keys_text (all_of import.now.tables) entries)) }
 {
-    let (bench, entries) = played(import, heap, alloc, limits, bytes)?;
+    let Playback { bench, entries, .. } = played(import, heap, alloc, limits, bytes)?;
     match keys_text(alloc, &import.tables, entries.as_str()) {
         Ok(keys) => Ok(Shown { bench, keys }),
         Err(oom) => {

@@ -15,7 +15,7 @@ use crate::events::play;
 use crate::numbers::asked;
 use bench_core::{Act, Bench, Names, Reply, Step};
 use diff_core::OnlineRow;
-use import_core::Noted;
+use import_core::{Import, Noted};
 use listed_core::compared;
 use payload_core::Oom;
 use report_core::{name_at, put_lines, rows_at};
@@ -160,23 +160,24 @@ fn check_event<'a, B: Allocator>(
     }
 }
 
-/// Checks the events in this order (see `check_event`). `order` has their places in `notes`.
+/// Checks the events of an import in their order (see `check_event`).
 fn check_events<'a, B: Allocator>(
     bench: &mut Bench<'a, B>,
     text: &mut String<&'a B>,
     agreements: &mut Vec<bool, &'a B>,
     numbers: &mut [u64],
-    notes: &[Noted<&'a B>],
-    order: &[usize],
+    import: &Import<&'a B>,
     alloc: &'a B,
 ) -> Result<(), Oom>
-    requires { All (λ place. place < length notes.now) order.now }
+    requires { All (λ place. place < length import.now.notes.items) import.now.order.items }
     ensures { OnOk result ((found : List Bool) × (told : List ℕ) × (agreements.new.items ≡ agreements.old.items ++ found)
         × (string_bytes text.new ≡ string_bytes text.old ++ told)
-        × AreChecked bench.old.names (record { machine = bench.old; numbers = numbers.old }) (in_order (map note_of notes.now) order.now) found told) }
+        × AreChecked bench.old.names (record { machine = bench.old; numbers = numbers.old })
+        (in_order (map note_of import.now.notes.items) import.now.order.items) found told) }
 {
-    for place in order {
-        check_event(bench, text, agreements, numbers, &notes[*place], alloc)?;
+    for place in &import.order {
+        let note = &import.notes[*place];
+        check_event(bench, text, agreements, numbers, note, alloc)?;
     }
     Ok(())
 }
@@ -191,24 +192,24 @@ fn put_agree<A: Allocator>(text: &mut String<A>, agreements: &[bool]) -> Result<
     Ok(writeln!(text, "agree {agree} of {all}")?)
 }
 
-/// Checks the events in this order, appends where the bench and the real nodes part and how many lists agree, and says
-/// whether bench and nodes part anywhere. The text must be empty. `numbers` is as in `play`.
+/// Checks the events of an import in their order, appends where the bench and the real nodes part and how many lists
+/// agree, and says whether bench and nodes part anywhere. The text must be empty. `numbers` is as in `play`.
 pub(crate) fn checked<'a, B: Allocator>(
     bench: &mut Bench<'a, B>,
     text: &mut String<&'a B>,
     numbers: &mut [u64],
-    notes: &[Noted<&'a B>],
-    order: &[usize],
+    import: &Import<&'a B>,
     alloc: &'a B,
 ) -> Result<bool, Oom>
     requires empty { length (string_bytes text.old) ≡ 0 }
-    requires places { All (λ place. place < length notes.now) order.now }
+    requires places { All (λ place. place < length import.now.notes.items) import.now.order.items }
     ensures { IfOk result (λ differs. (agreements : List Bool) × (told : List ℕ)
-        × AreChecked bench.old.names (record { machine = bench.old; numbers = numbers.old }) (in_order (map note_of notes.now) order.now) agreements told
+        × AreChecked bench.old.names (record { machine = bench.old; numbers = numbers.old })
+        (in_order (map note_of import.now.notes.items) import.now.order.items) agreements told
         × (string_bytes text.new ≡ told ++ agree_line agreements) × (differs ≡ not (length told == 0))) }
 {
     let mut agreements = Vec::new(alloc);
-    check_events(bench, text, &mut agreements, numbers, notes, order, alloc)?;
+    check_events(bench, text, &mut agreements, numbers, import, alloc)?;
     let differs = !text.is_empty();
     put_agree(text, &agreements)?;
     Ok(differs)

@@ -40,15 +40,7 @@ fn script_of_import<'a, B: Allocator>(
     ensures count { OnOk result (length (shown_names import.now.tables.nodes) ≡ length import.now.tables.nodes) }
 {
     let names = shown_names(alloc, &import.tables.nodes)?;
-    script_of(
-        &import.tables,
-        alloc,
-        limits,
-        told,
-        names,
-        &import.notes,
-        &import.order,
-    )
+    script_of(import, alloc, limits, told, names)
 }
 
 /// The script of these logs, with the bench on which `import_script` played its lines; and the line numbers of the
@@ -137,14 +129,7 @@ fn check_of_import<'a, B: Allocator>(
     let mut numbers = zeros(alloc, import.tables.messages.len())?;
     let mut bench = Bench::new(alloc, names, limits)?;
     let mut text = String::new(alloc);
-    let differs = checked(
-        &mut bench,
-        &mut text,
-        &mut numbers,
-        &import.notes,
-        &import.order,
-        alloc,
-    );
+    let differs = checked(&mut bench, &mut text, &mut numbers, import, alloc);
     // form: drop before exit
     bench.discard();
     let differs = differs?;

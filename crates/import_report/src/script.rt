@@ -12,7 +12,7 @@ ghost use Rattle.import_report.specs.Scripts.{in_order, nodes_line, opening, spa
 use crate::comments::put_comments;
 use crate::events::put_lines;
 use bench_core::{Bench, Limits, Names};
-use import_core::{Noted, Tables};
+use import_core::{Import, Tables};
 use payload_core::Oom;
 use report_core::name_at;
 use std::alloc::Allocator;
@@ -38,25 +38,26 @@ fn put_nodes<A: Allocator, N: Allocator>(text: &mut String<A>, names: &Names<N>)
     Ok(text.push_str("\n")?)
 }
 
-/// Plays the events in this order, and appends their lines. `order` has their places in `notes`; `told` is as in
-/// `put_lines`, and `numbers` as in `play`.
+/// Plays the events of an import in their order, and appends their lines. `told` is as in `put_lines`, and `numbers` as
+/// in `play`.
 #[tactic(auto, unfolding(crate::specs::Events::events_text))]
 fn put_events<'a, B: Allocator>(
     text: &mut String<&'a B>,
     bench: &mut Bench<'a, B>,
     numbers: &mut [u64],
     told: bool,
-    notes: &[Noted<&'a B>],
-    order: &[usize],
+    import: &Import<&'a B>,
 ) -> Result<(), Oom>
-    requires { All (λ place. place < length notes.now) order.now }
+    requires { All (λ place. place < length import.now.notes.items) import.now.order.items }
     ensures text { OnOk result (string_bytes text.new ≡ string_bytes text.old ++
-        events_text told bench.old.names (record { machine = bench.old; numbers = numbers.old }) (in_order (map note_of notes.now) order.now)) }
+        events_text told bench.old.names (record { machine = bench.old; numbers = numbers.old })
+        (in_order (map note_of import.now.notes.items) import.now.order.items)) }
     ensures bench { OnOk result (bench.new ≡
-        (after_events (record { machine = bench.old; numbers = numbers.old }) (in_order (map note_of notes.now) order.now)).machine) }
+        (after_events (record { machine = bench.old; numbers = numbers.old }) (in_order (map note_of import.now.notes.items) import.now.order.items)).machine) }
 {
-    for place in order {
-        put_lines(text, bench, numbers, told, &notes[*place])?;
+    for place in &import.order {
+        let note = &import.notes[*place];
+        put_lines(text, bench, numbers, told, note)?;
     }
     Ok(())
 }
@@ -90,31 +91,30 @@ fn put_head<'a, B: Allocator>(
     put_comments(alloc, text, names, tables)
 }
 
-/// Makes the script of the events in this order, by playing them on a bench with these names and limits. `order` has
-/// their places in `notes`; `told` is as for `put_lines`.
+/// Makes the script of an import's events, by playing them in their order on a bench with these names and limits. `told`
+/// is as for `put_lines`.
 #[tactic(auto, unfolding(crate::specs::Scripts::script_text))]
 pub(crate) fn script_of<'a, B: Allocator>(
-    tables: &Tables<&'a B>,
+    import: &Import<&'a B>,
     alloc: &'a B,
     limits: Limits,
     told: bool,
     names: Names<&'a B>,
-    notes: &[Noted<&'a B>],
-    order: &[usize],
 ) -> Result<Scripted<'a, B>, Oom>
-    requires few { length tables.now.nodes ≤ most_names }
-    requires places { All (λ place. place < length notes.now) order.now }
+    requires few { length import.now.tables.nodes ≤ most_names }
+    requires places { All (λ place. place < length import.now.notes.items) import.now.order.items }
     ensures text { IfOk result (λ s. string_bytes s.text ≡
-        script_text told limits names.entry (all_of tables.now) (in_order (map note_of notes.now) order.now)) }
+        script_text told limits names.entry (all_of import.now.tables) (in_order (map note_of import.now.notes.items) import.now.order.items)) }
     ensures bench { IfOk result (λ s. s.bench ≡
-        (after_events (opening limits names.entry (length tables.now.messages)) (in_order (map note_of notes.now) order.now)).machine) }
-    ensures few { OnOk result (length tables.now.longs < 2 ^ 64) }
+        (after_events (opening limits names.entry (length import.now.tables.messages))
+        (in_order (map note_of import.now.notes.items) import.now.order.items)).machine) }
+    ensures few { OnOk result (length import.now.tables.longs < 2 ^ 64) }
 {
     let mut text = String::new(alloc);
-    put_head(&mut text, alloc, &names, tables)?;
-    let mut numbers = zeros(alloc, tables.messages.len())?;
+    put_head(&mut text, alloc, &names, &import.tables)?;
+    let mut numbers = zeros(alloc, import.tables.messages.len())?;
     let mut bench = Bench::new(alloc, names, limits)?;
-    if let Err(oom) = put_events(&mut text, &mut bench, &mut numbers, told, notes, order) {
+    if let Err(oom) = put_events(&mut text, &mut bench, &mut numbers, told, import) {
         // form: drop before exit
         bench.discard();
         return Err(oom);

@@ -8,6 +8,20 @@ use explore_report::{About, Question, ReportFault, explore_asked, run_of_outcome
 use progress_core::{Walked, Watch};
 use std::alloc::Allocator;
 
+/// The exploration that was chosen.
+#[derive(Clone, Copy)]
+pub struct Exploration<'w> {
+    pub about: command_line::About<'w>,
+    /// How many deliveries may be missing.
+    pub lost: usize,
+    /// How many deliveries may come a second time.
+    pub again: usize,
+    /// How many states may be kept.
+    pub states: usize,
+    /// The number of the outcome whose run is wanted; `None` for the outcomes themselves.
+    pub outcome: Option<u64>,
+}
+
 /// What the chosen exploration is about, as `explore_report` takes it.
 fn about_of<'w>(chosen: command_line::About<'w>) -> About<'w>
     ensures { result ≡ about_of chosen.entry }
@@ -21,38 +35,34 @@ fn about_of<'w>(chosen: command_line::About<'w>) -> About<'w>
     }
 }
 
-/// The question that was chosen, as `explore_report` takes it: at most `lost` deliveries are missing, at most `again`
-/// come a second time, and at most `states` states are kept.
-pub fn asked_of<'w>(
-    chosen: command_line::About<'w>,
-    lost: usize,
-    again: usize,
-    states: usize,
-) -> Question<'w>
-    ensures { result ≡ asked_of chosen.entry lost again states }
+/// The exploration that was chosen, as `explore_report` takes it.
+fn asked_of<'w>(asked: Exploration<'w>) -> Question<'w>
+    ensures { result ≡ asked_of asked.entry.about asked.entry.lost asked.entry.again asked.entry.states }
 {
     Question {
-        about: about_of(chosen),
-        lost,
-        again,
-        states,
+        about: about_of(asked.about),
+        lost: asked.lost,
+        again: asked.again,
+        states: asked.states,
     }
 }
 
-/// The outcomes of what the network could have done; or, given the number of an `outcome`, a run that leads to it, as a
-/// script. Tells `watch` how far the walk has come.
+/// The outcomes of what the network could have done; or, if the number of an outcome is given, a run that leads to it,
+/// as a script. Tells `watch` how far the walk has come.
 pub fn tell_explored<'a, B: Allocator, W: Watch<Walked>>(
     bench: &mut Bench<'a, B>,
     alloc: &'a B,
-    question: Question<'_>,
-    outcome: Option<u64>,
+    asked: Exploration<'_>,
     watch: &mut W,
 ) -> Result<String<&'a B>, ReportFault>
-    ensures told { IfOk result (λ text. TellsExplored bench.old question.entry outcome (string_bytes text)) }
-    ensures refused { IfErr result (RefusesExplored bench.old question.entry outcome) }
+    ensures told { IfOk result (λ text. TellsExplored bench.old (asked_of asked.entry.about asked.entry.lost asked.entry.again asked.entry.states)
+        asked.entry.outcome (string_bytes text)) }
+    ensures refused { IfErr result (RefusesExplored bench.old (asked_of asked.entry.about asked.entry.lost asked.entry.again asked.entry.states)
+        asked.entry.outcome) }
     ensures watched { Watched W.told watch.old watch.new }
 {
-    match outcome {
+    let question = asked_of(asked);
+    match asked.outcome {
         None => explore_asked(bench, alloc, question, watch),
         Some(number) => run_of_outcome(bench, alloc, question, number, watch),
     }

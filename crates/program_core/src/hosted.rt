@@ -2,6 +2,7 @@
 ghost use Rattle.std.specs.Prelude.{◌≡◌, ℕ};
 ghost use Rattle.std.specs.Process.{exit_status};
 
+use crate::host::{Host, Setting};
 use crate::status::{program_within, tell_out_of_memory};
 use bench_core::Limits;
 use std::io::{IsTerminal, Write};
@@ -59,16 +60,16 @@ fn status<T: Threads + Wait + Sync>(rt: &HostRuntime, threads: &T) -> u8 {
     };
     let terminal = rt.stdin().is_terminal();
     let mut output = io::writer(rt);
-    program_within(
-        threads,
-        rt.alloc(),
-        &rt.alloc(),
-        &words,
-        &mut rt.reader(),
-        &mut output,
-        &mut errors,
-        Limits::usual(),
+    let heap = rt.alloc();
+    let setting = Setting {
+        host: Host {
+            threads,
+            heap,
+            alloc: &heap,
+            clock: rt,
+        },
+        limits: Limits::usual(),
         terminal,
-        rt,
-    )
+    };
+    program_within(&setting, &words, &mut rt.reader(), &mut output, &mut errors)
 }

@@ -10,6 +10,8 @@ ghost use Rattle.program_core.specs.Program.{EndsAt, FailsAs, IsEarly, IsUnwritt
 
 use crate::aside::Aside;
 use crate::fault::Fault;
+use crate::host::Setting;
+use crate::notes::Notes;
 use crate::pages::page_with;
 use crate::text::{Text, bytes_of, print};
 use crate::texts::{LONGEST_SESSION, session_line};
@@ -143,19 +145,38 @@ fn is_full<'a, B: Allocator>(bench: &mut Bench<'a, B>) -> bool
         < 2
 }
 
-/// The script of the events; if `lines` is true, with comments that tell the events' line numbers in the logs.
+/// What the command line chose to be made from logs.
+#[derive(Clone, Copy)]
+pub struct ImportOptions {
+    /// Whether to tell where the bench and the real nodes part.
+    pub check: bool,
+    /// Whether comments in the script tell the events' line numbers in the logs.
+    pub lines: bool,
+    /// Whether events that take a message which was never sent are left out.
+    pub lenient: bool,
+    pub form: Form,
+}
+
+/// The script of the events, with comments that tell the events' line numbers in the logs, if these are wanted.
 fn make_script<'a, B: Allocator>(
     heap: Global,
     alloc: &'a B,
     limits: Limits,
-    lines: bool,
-    lenient: bool,
+    wanted: ImportOptions,
     input: &[u8],
 ) -> Result<Made<&'a B>, ImportFault>
-    ensures made { IfOk result (λ m. IsMade false lines lenient forms.Script limits input.now (text_bytes m.text) m.differs m.left_out.items m.full) }
-    ensures refused { IfErr result (IsUnmade false lines lenient forms.Script limits input.now) }
+    ensures made { IfOk result (λ m. IsMade false wanted.lines wanted.lenient forms.Script limits input.now (text_bytes m.text) m.differs
+        m.left_out.items m.full) }
+    ensures refused { IfErr result (IsUnmade false wanted.lines wanted.lenient forms.Script limits input.now) }
 {
-    let (scripted, left_out) = import_script(heap, alloc, limits, lenient, lines, input)?;
+    let (scripted, left_out) = import_script(
+        heap,
+        alloc,
+        limits,
+        wanted.lenient,
+        wanted.lines,
+        input,
+    )?;
     Ok(Made {
         text: Text::Own(text_of(scripted)),
         differs: false,
@@ -176,15 +197,14 @@ fn make_session<'a, B: Allocator>(
     heap: Global,
     alloc: &'a B,
     limits: Limits,
-    lines: bool,
-    lenient: bool,
+    wanted: ImportOptions,
     input: &[u8],
 ) -> Result<Made<&'a B>, ImportFault>
-    ensures made { IfOk result (λ m. IsMade false lines lenient forms.Session limits input.now (text_bytes m.text) m.differs m.left_out.items m.full) }
-    ensures refused { IfErr result (IsUnmade false lines lenient forms.Session limits input.now) }
+    ensures made { IfOk result (λ m. IsMade false wanted.lines wanted.lenient forms.Session limits input.now (text_bytes m.text) m.differs
+        m.left_out.items m.full) }
+    ensures refused { IfErr result (IsUnmade false wanted.lines wanted.lenient forms.Session limits input.now) }
 {
-    // form: the parameter `lines` is for the contract alone
-    let (mut bench, left_out) = import_bench(heap, alloc, limits, lenient, input)?;
+    let (mut bench, left_out) = import_bench(heap, alloc, limits, wanted.lenient, input)?;
     let text = session_line(heap, &mut bench);
     let full = is_full(&mut bench);
     // form: drop before exit
@@ -202,15 +222,14 @@ fn make_page<'a, B: Allocator>(
     heap: Global,
     alloc: &'a B,
     limits: Limits,
-    lines: bool,
-    lenient: bool,
+    wanted: ImportOptions,
     input: &[u8],
 ) -> Result<Made<&'a B>, ImportFault>
-    ensures made { IfOk result (λ m. IsMade false lines lenient forms.Page limits input.now (text_bytes m.text) m.differs m.left_out.items m.full) }
-    ensures refused { IfErr result (IsUnmade false lines lenient forms.Page limits input.now) }
+    ensures made { IfOk result (λ m. IsMade false wanted.lines wanted.lenient forms.Page limits input.now (text_bytes m.text) m.differs
+        m.left_out.items m.full) }
+    ensures refused { IfErr result (IsUnmade false wanted.lines wanted.lenient forms.Page limits input.now) }
 {
-    // form: the parameter `lines` is for the contract alone
-    let (shown, left_out) = import_shown(heap, alloc, limits, lenient, input)?;
+    let (shown, left_out) = import_shown(heap, alloc, limits, wanted.lenient, input)?;
     let Shown { mut bench, keys } = shown;
     let page = page_with(&mut bench, alloc, keys.as_str());
     let full = is_full(&mut bench);
@@ -230,16 +249,14 @@ fn make_check<'a, B: Allocator>(
     heap: Global,
     alloc: &'a B,
     limits: Limits,
-    lines: bool,
-    lenient: bool,
-    form: Form,
+    wanted: ImportOptions,
     input: &[u8],
 ) -> Result<Made<&'a B>, ImportFault>
-    ensures made { IfOk result (λ m. IsMade true lines lenient form limits input.now (text_bytes m.text) m.differs m.left_out.items m.full) }
-    ensures refused { IfErr result (IsUnmade true lines lenient form limits input.now) }
+    ensures made { IfOk result (λ m. IsMade true wanted.lines wanted.lenient wanted.form limits input.now (text_bytes m.text) m.differs
+        m.left_out.items m.full) }
+    ensures refused { IfErr result (IsUnmade true wanted.lines wanted.lenient wanted.form limits input.now) }
 {
-    // form: `lines` and `form` are for the contract alone
-    let (found, left_out) = import_check(heap, alloc, limits, lenient, input)?;
+    let (found, left_out) = import_check(heap, alloc, limits, wanted.lenient, input)?;
     let Checked { text, differs } = found;
     Ok(Made {
         text: Text::Own(text.into_bytes()),
@@ -249,30 +266,27 @@ fn make_check<'a, B: Allocator>(
     })
 }
 
-/// Makes from the events what the command line chose. If the events are refused, `aside` gets the hint, if there is
-/// one.
+/// Makes from the events what is `wanted`. If the events are refused, `aside` gets the hint, if there is one.
 fn make<'a, B: Allocator>(
     heap: Global,
     alloc: &'a B,
     limits: Limits,
-    check: bool,
-    lines: bool,
-    lenient: bool,
-    form: Form,
+    wanted: ImportOptions,
     input: &[u8],
     aside: &mut Aside,
 ) -> Result<Made<&'a B>, Fault>
-    ensures made { IfOk result (λ m. IsMade check lines lenient form limits input.now (text_bytes m.text) m.differs m.left_out.items m.full) }
-    ensures refused { IfErr result (RefusesImport check lines lenient form limits input.now) }
+    ensures made { IfOk result (λ m. IsMade wanted.check wanted.lines wanted.lenient wanted.form limits input.now (text_bytes m.text) m.differs
+        m.left_out.items m.full) }
+    ensures refused { IfErr result (RefusesImport wanted.check wanted.lines wanted.lenient wanted.form limits input.now) }
     ensures memory { IfErr result TellsMemory }
     ensures unwritten { IfErr result IsUnwritten }
     ensures unread { result ≢ Err Fault.ReadFault }
 {
-    let made = match form {
-        _ if check => make_check(heap, alloc, limits, lines, lenient, form, input),
-        Form::Session => make_session(heap, alloc, limits, lines, lenient, input),
-        Form::Page => make_page(heap, alloc, limits, lines, lenient, input),
-        _ => make_script(heap, alloc, limits, lines, lenient, input),
+    let made = match wanted.form {
+        _ if wanted.check => make_check(heap, alloc, limits, wanted, input),
+        Form::Session => make_session(heap, alloc, limits, wanted, input),
+        Form::Page => make_page(heap, alloc, limits, wanted, input),
+        _ => make_script(heap, alloc, limits, wanted, input),
     };
     match made {
         Ok(made) => Ok(made),
@@ -294,42 +308,44 @@ fn print_made<B: Allocator, W: Write>(writer: &mut W, made: &Made<&B>) -> Result
     Ok(())
 }
 
-/// Reads the events of logs, and prints a script of them, or what else the command line chose by `check`, `lines`,
-/// `lenient` and `form`. Before it prints, it tells on `errors` which lines were left out, if any were, and that the
-/// history is full, if it is; `lost` notes if that can't be written. If the events are refused, `aside` gets the hint,
-/// if there is one. `steps` counts the calls of `read`.
-pub fn import_events<B: Allocator, R: Read, W: Write, E: Write, L: Ledger>(
-    heap: Global,
-    alloc: &B,
+/// Reads the events of logs, and prints a script of them, or what else is `wanted`. Before it prints, it tells on
+/// `errors` which lines were left out, if any were, and that the history is full, if it is; `notes` notes if that can't
+/// be written. If the events are refused, `notes` gets the hint, if there is one.
+pub fn import_events<B: Allocator, T, C, R: Read, W: Write, E: Write, L: Ledger>(
+    setting: &Setting<'_, B, T, C>,
+    wanted: ImportOptions,
     reader: &mut R,
     writer: &mut W,
     errors: &mut E,
-    limits: Limits,
-    check: bool,
-    lines: bool,
-    lenient: bool,
-    form: Form,
-    aside: &mut Aside,
-    lost: &mut Lost<E>,
-    steps: &mut Steps<R, L>,
+    notes: &mut Notes<R, E, L>,
 ) -> Result<(), Fault>
-    ensures ends { EndsAt (subcommands.Import check lines lenient) form limits (R.remaining reader.old) result (W.contents writer.old) (W.contents writer.new) }
+    ensures ends { EndsAt (subcommands.Import wanted.check wanted.lines wanted.lenient) wanted.form setting.now.limits (R.remaining reader.old) result
+        (W.contents writer.old) (W.contents writer.new) }
     ensures read { OnOk result (IsAtEnd (R.remaining reader.new)) }
     ensures unwritten { IfErr result (λ fault. KeepsBefore fault (W.contents writer.old) (W.contents writer.new)) }
     ensures memory { IfErr result TellsMemory }
-    ensures failed { FailsAs result steps.old steps.new }
-    ensures aside { TellsMissing check lines lenient form limits (R.remaining reader.old) (E.contents errors.old) (E.contents errors.new) }
+    ensures failed { FailsAs result notes.old.steps notes.new.steps }
+    ensures aside { TellsMissing wanted.check wanted.lines wanted.lenient wanted.form setting.now.limits (R.remaining reader.old)
+        (E.contents errors.old) (E.contents errors.new) }
     ensures told { IsEarly result ⊎
-        TellsMade check lines lenient form limits (R.remaining reader.old) lost.new (E.contents errors.old) (E.contents errors.new) }
+        TellsMade wanted.check wanted.lines wanted.lenient wanted.form setting.now.limits (R.remaining reader.old) notes.new.lost (E.contents errors.old)
+        (E.contents errors.new) }
 {
-    let input = read_events(alloc, reader, steps)?;
+    let heap = setting.host.heap;
+    let alloc = setting.host.alloc;
+    let input = read_events(alloc, reader, &mut notes.steps)?;
     let made = make(
-        heap, alloc, limits, check, lines, lenient, form, &input, aside,
+        heap,
+        alloc,
+        setting.limits,
+        wanted,
+        &input,
+        &mut notes.aside,
     );
     // form: drop before exit
     drop(input);
     let made = made?;
-    let Ok(()) = tell_missing(alloc, errors, &made.left_out, made.full, lost) else {
+    let Ok(()) = tell_missing(alloc, errors, &made.left_out, made.full, &mut notes.lost) else {
         // form: drop before exit
         drop(made);
         return Err(Fault::OutOfMemory);

@@ -10,13 +10,13 @@ ghost use Rattle.program_core.specs.Program.{FailsAs, IsBenchAt, IsRunAt, IsUnwr
 
 use crate::aside::Aside;
 use crate::fault::Fault;
+use crate::host::Setting;
+use crate::notes::Notes;
 use crate::texts::LONGEST_SESSION;
 use bench_core::{Bench, Limits, TextSet};
 use hint_core::begins_object;
 use payload_core::Oom;
-use script_core::{
-    FaultKind, InputFault, Played, Script, Steps, console_names, parse_script, run_script,
-};
+use script_core::{FaultKind, InputFault, Played, Script, console_names, parse_script, run_script};
 use session_core::{SessionFault, load};
 use std::alloc::{Allocator, Global};
 use std::io::Read;
@@ -116,7 +116,8 @@ fn play_bytes<'a, B: Allocator>(
     limits: Limits,
     aside: &mut Aside,
 ) -> Result<Run<'a, B>, Fault>
-    ensures played { IfOk result (λ run. IsOkAnd (script_of bytes.now) (λ script. (run.bench ≡ played limits script) × (run.consoles ≡ script.cast.consoles))) }
+    ensures played { IfOk result (λ run. IsOkAnd (script_of bytes.now) (λ script. (run.bench ≡ played limits script)
+        × (run.consoles ≡ script.cast.consoles))) }
     ensures cause { IfErr result (RefusesScript bytes.now) }
     ensures memory { IfErr result TellsMemory }
     ensures unwritten { IfErr result IsUnwritten }
@@ -139,25 +140,22 @@ fn play_bytes<'a, B: Allocator>(
     }
 }
 
-/// Reads the input, which is a session or a script, and gives its run. If the input is refused, `aside` gets the hint,
-/// if there is one. `limits` are for the bench of a script; a session has its own. `steps` counts the calls of
-/// `read`.
-pub fn read_run<'a, B: Allocator, R: Read, L: Ledger>(
-    heap: Global,
-    alloc: &'a B,
+/// Reads the input, which is a session or a script, and gives its run. If the input is refused, `notes` gets the hint,
+/// if there is one.
+pub fn read_run<'a, B: Allocator, T, C, R: Read, E, L: Ledger>(
+    setting: &Setting<'a, B, T, C>,
     reader: &mut R,
-    limits: Limits,
-    aside: &mut Aside,
-    steps: &mut Steps<R, L>,
+    notes: &mut Notes<R, E, L>,
 ) -> Result<Run<'a, B>, Fault>
-    ensures run { IfOk result (λ run. IsRunAt limits (R.remaining reader.old) run.bench run.consoles) }
+    ensures run { IfOk result (λ run. IsRunAt setting.now.limits (R.remaining reader.old) run.bench run.consoles) }
     ensures cause { IfErr result (RefusesBenchAt (R.remaining reader.old)) }
     ensures memory { IfErr result TellsMemory }
     ensures unwritten { IfErr result IsUnwritten }
     ensures read { OnOk result (IsAtEnd (R.remaining reader.new)) }
-    ensures failed { FailsAs result steps.old steps.new }
+    ensures failed { FailsAs result notes.old.steps notes.new.steps }
 {
-    let input = match read_front(alloc, reader, LONGEST_SESSION + 1, steps) {
+    let alloc = setting.host.alloc;
+    let input = match read_front(alloc, reader, LONGEST_SESSION + 1, &mut notes.steps) {
         Ok(input) => input,
         Err(InputFault::ReadFault) => return Err(Fault::ReadFault),
         Err(InputFault::OutOfMemory) => return Err(Fault::OutOfMemory),
@@ -165,9 +163,9 @@ pub fn read_run<'a, B: Allocator, R: Read, L: Ledger>(
         Err(InputFault::TooLong) => unreachable!(),
     };
     if begins_object(&input) {
-        return load_bytes(heap, alloc, &input, aside);
+        return load_bytes(setting.host.heap, alloc, &input, &mut notes.aside);
     }
-    play_bytes(alloc, &input, limits, aside)
+    play_bytes(alloc, &input, setting.limits, &mut notes.aside)
 }
 
 /// The bench of a run. The names of the consoles are dropped.
@@ -181,23 +179,20 @@ fn bench_of<'a, B: Allocator>(run: Run<'a, B>) -> Bench<'a, B>
 }
 
 /// Like `read_run`, but gives the bench without the names of the consoles.
-pub fn read_bench<'a, B: Allocator, R: Read, L: Ledger>(
-    heap: Global,
-    alloc: &'a B,
+pub fn read_bench<'a, B: Allocator, T, C, R: Read, E, L: Ledger>(
+    setting: &Setting<'a, B, T, C>,
     reader: &mut R,
-    limits: Limits,
-    aside: &mut Aside,
-    steps: &mut Steps<R, L>,
+    notes: &mut Notes<R, E, L>,
 ) -> Result<Bench<'a, B>, Fault>
-    ensures bench { IfOk result (IsBenchAt limits (R.remaining reader.old)) }
+    ensures bench { IfOk result (IsBenchAt setting.now.limits (R.remaining reader.old)) }
     ensures cause { IfErr result (RefusesBenchAt (R.remaining reader.old)) }
     ensures memory { IfErr result TellsMemory }
     ensures unwritten { IfErr result IsUnwritten }
     ensures read { OnOk result (IsAtEnd (R.remaining reader.new)) }
-    ensures failed { FailsAs result steps.old steps.new }
+    ensures failed { FailsAs result notes.old.steps notes.new.steps }
 {
     // form: each arm is a case of the proof
-    match read_run(heap, alloc, reader, limits, aside, steps) {
+    match read_run(setting, reader, notes) {
         Ok(run) => Ok(bench_of(run)),
         Err(fault) => Err(fault),
     }

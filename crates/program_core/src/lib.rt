@@ -9,20 +9,23 @@
 //! could have done), `progress_core` (how far long work has come), `stream_core` (the first bytes of an input) and
 //! `bench_core` (benches and limits). It names the plain types of the crates below.
 //!
-//! The modules in reading order: `fault` and `aside`, why the program ends as it does, and what to do about it; `text`,
-//! bytes to be printed; `texts`, a script or a session that is read; `inputs`, the run of what may be either; `racing`,
-//! what a race leaves; `exploring`, what the network could have done; `whatifs`, what would have made a difference;
-//! `importing`, what is made from logs; `stepping`, a prompt; `shown`, what is shown of a play; `pictures` and `pages`,
-//! how a run is drawn and shown on a page; `printing`, what each choice prints; `status`, the program from its words to
-//! its status; `hosted`, the same on the runtime's words and streams.
+//! The modules in reading order: `fault` and `aside`, why the program ends as it does, and what to do about it; `host`
+//! and `notes`, what the program runs with, and what it notes; `text`, bytes to be printed; `texts`, a script or a
+//! session that is read; `inputs`, the run of what may be either; `racing`, what a race leaves; `exploring`, what the
+//! network could have done; `whatifs`, what would have made a difference; `importing`, what is made from logs;
+//! `stepping`, a prompt; `shown`, what is shown of a play; `pictures` and `pages`, how a run is drawn and shown on a
+//! page; `printing`, what each choice prints; `status`, the program from its words to its status; `hosted`, the same on
+//! the runtime's words and streams.
 #![tactic(auto)]
 
 mod aside;
 mod exploring;
 mod fault;
+mod host;
 mod hosted;
 mod importing;
 mod inputs;
+mod notes;
 mod pages;
 mod pictures;
 mod printing;
@@ -35,5 +38,7 @@ mod texts;
 mod whatifs;
 
 pub use fault::{Fault, Refused};
+pub use host::{Host, Setting};
 pub use hosted::{Ended, run};
+pub use notes::Notes;
 pub use status::{program, program_counted, program_within};

@@ -1,22 +1,22 @@
 //! Prints a page that shows the run that an input gives.
 ghost use Rattle.std.specs.Prelude.{◌≡◌, IfErr, IfOk, OnOk};
 ghost use Rattle.std.specs.Io.KnownBytes.{IsAtEnd};
+ghost use Rattle.command_line.specs.declared.chosen.Form.{Form};
 ghost use Rattle.command_line.specs.declared.chosen.Subcommand.TheVariants as subcommands;
 ghost use Rattle.program_core.specs.Program.{EndsAt, FailsAs, KeepsBefore, TellsMemory};
 ghost use Rattle.program_core.specs.Views.{page_around, page_of, page_with};
 
-use crate::aside::Aside;
 use crate::fault::Fault;
+use crate::host::Setting;
 use crate::inputs::{Run, read_run};
+use crate::notes::Notes;
 use crate::text::print;
-use bench_core::{Bench, Limits, TextSet};
-use command_line::Form;
+use bench_core::{Bench, TextSet};
 use page_core::put_page;
 use page_data::{page_data, page_data_with};
 use payload_core::Oom;
 use picture_core::draw_whole;
-use script_core::Steps;
-use std::alloc::{Allocator, Global};
+use std::alloc::Allocator;
 use std::io::{Read, Write};
 use std::sync::ledger::Ledger;
 use transcript_core::bench_steps;
@@ -59,27 +59,22 @@ pub(crate) fn page_with<'a, B: Allocator>(
     page_around(bench, alloc, &consoles, told.as_str())
 }
 
-/// Reads a run from the input, and prints its page. If the input is refused, `aside` gets the hint, if there is one.
-/// `steps` counts the calls of `read`.
-pub fn page_run<B: Allocator, R: Read, W: Write, L: Ledger>(
-    heap: Global,
-    alloc: &B,
+/// Reads a run from the input, and prints its page. If the input is refused, `notes` gets the hint, if there is one.
+pub fn page_run<B: Allocator, T, C, R: Read, W: Write, E, L: Ledger>(
+    setting: &Setting<'_, B, T, C>,
     reader: &mut R,
     writer: &mut W,
-    limits: Limits,
-    form: Form,
-    aside: &mut Aside,
-    steps: &mut Steps<R, L>,
+    notes: &mut Notes<R, E, L>,
 ) -> Result<(), Fault>
-    ensures ends { EndsAt subcommands.Page form limits (R.remaining reader.old) result (W.contents writer.old) (W.contents writer.new) }
+    ensures ends { (form : Form) → EndsAt subcommands.Page form setting.now.limits (R.remaining reader.old) result (W.contents writer.old)
+        (W.contents writer.new) }
     ensures read { OnOk result (IsAtEnd (R.remaining reader.new)) }
     ensures unwritten { IfErr result (λ fault. KeepsBefore fault (W.contents writer.old) (W.contents writer.new)) }
     ensures memory { IfErr result TellsMemory }
-    ensures failed { FailsAs result steps.old steps.new }
+    ensures failed { FailsAs result notes.old.steps notes.new.steps }
 {
-    // form: the parameter `form` is for the contract alone
-    let mut run = read_run(heap, alloc, reader, limits, aside, steps)?;
-    let page = page_of(&mut run, alloc);
+    let mut run = read_run(setting, reader, notes)?;
+    let page = page_of(&mut run, setting.host.alloc);
     // form: drop before exit
     let Run { bench, consoles } = run;
     bench.discard();

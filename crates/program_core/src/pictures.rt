@@ -1,19 +1,19 @@
 //! Draws the run that an input gives.
 ghost use Rattle.std.specs.Prelude.{◌≡◌, IfErr, OnOk};
 ghost use Rattle.std.specs.Io.KnownBytes.{IsAtEnd};
+ghost use Rattle.command_line.specs.declared.chosen.Form.{Form};
 ghost use Rattle.command_line.specs.declared.chosen.Subcommand.TheVariants as subcommands;
 ghost use Rattle.program_core.specs.Program.{EndsAt, FailsAs, KeepsBefore, TellsMemory};
 ghost use Rattle.program_core.specs.Views.{presence_of, view_of};
 
-use crate::aside::Aside;
 use crate::fault::Fault;
+use crate::host::Setting;
 use crate::inputs::{Run, read_run};
+use crate::notes::Notes;
 use crate::text::print;
-use bench_core::Limits;
-use command_line::{Drawing, Form, Question};
+use command_line::{Drawing, Question};
 use picture_core::{Presence, View, draw};
-use script_core::Steps;
-use std::alloc::{Allocator, Global};
+use std::alloc::Allocator;
 use std::io::{Read, Write};
 use std::sync::ledger::Ledger;
 
@@ -49,28 +49,28 @@ fn view_of<'w>(drawing: Drawing<'w>) -> View<'w>
     }
 }
 
-/// Reads a run from the input, and prints its picture. If the input is refused, `aside` gets the hint, if there is one.
-/// `steps` counts the calls of `read`.
-pub fn draw_run<B: Allocator, R: Read, W: Write, L: Ledger>(
-    heap: Global,
-    alloc: &B,
+/// Reads a run from the input, and prints its picture. If the input is refused, `notes` gets the hint, if there is one.
+pub fn draw_run<B: Allocator, T, C, R: Read, W: Write, E, L: Ledger>(
+    setting: &Setting<'_, B, T, C>,
+    drawing: Drawing<'_>,
     reader: &mut R,
     writer: &mut W,
-    limits: Limits,
-    form: Form,
-    drawing: Drawing<'_>,
-    aside: &mut Aside,
-    steps: &mut Steps<R, L>,
+    notes: &mut Notes<R, E, L>,
 ) -> Result<(), Fault>
-    ensures ends { EndsAt (subcommands.Draw drawing.entry) form limits (R.remaining reader.old) result (W.contents writer.old) (W.contents writer.new) }
+    ensures ends { (form : Form) → EndsAt (subcommands.Draw drawing.entry) form setting.now.limits (R.remaining reader.old) result (W.contents writer.old)
+        (W.contents writer.new) }
     ensures read { OnOk result (IsAtEnd (R.remaining reader.new)) }
     ensures unwritten { IfErr result (λ fault. KeepsBefore fault (W.contents writer.old) (W.contents writer.new)) }
     ensures memory { IfErr result TellsMemory }
-    ensures failed { FailsAs result steps.old steps.new }
+    ensures failed { FailsAs result notes.old.steps notes.new.steps }
 {
-    // form: the parameter `form` is for the contract alone
-    let run = read_run(heap, alloc, reader, limits, aside, steps)?;
-    let drawn = draw(&run.bench, alloc, &run.consoles, view_of(drawing));
+    let run = read_run(setting, reader, notes)?;
+    let drawn = draw(
+        &run.bench,
+        setting.host.alloc,
+        &run.consoles,
+        view_of(drawing),
+    );
     // form: drop before exit
     let Run { bench, consoles } = run;
     bench.discard();

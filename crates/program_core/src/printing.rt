@@ -8,11 +8,12 @@ ghost use Rattle.progress_core.specs.Lines.{TellsTried, TellsWalked};
 ghost use Rattle.run_core.specs.Report.{history_text};
 ghost use Rattle.program_core.specs.Program.{EndsAt, EndsSoon, FailsAs, IsEarly, IsReadBy, KeepsBefore, TellsMemory, TellsOn, TellsWhole, question_of};
 
-use crate::aside::Aside;
-use crate::exploring::{asked_of, tell_explored};
+use crate::exploring::{Exploration, tell_explored};
 use crate::fault::Fault;
-use crate::importing::import_events;
+use crate::host::Setting;
+use crate::importing::{ImportOptions, import_events};
 use crate::inputs::read_bench;
+use crate::notes::Notes;
 use crate::pages::page_run;
 use crate::pictures::draw_run;
 use crate::racing::race_script;
@@ -20,14 +21,14 @@ use crate::shown::{load_shown, play_shown};
 use crate::stepping::step_script;
 use crate::text::print;
 use crate::texts::{read_script, session_line};
-use crate::whatifs::tell_whatif;
-use bench_core::{Bench, Limits};
-use command_line::{About, Choice, Form, Subcommand};
+use crate::whatifs::{Whatif, tell_whatif};
+use bench_core::Bench;
+use command_line::{Choice, Form, Subcommand};
 use explain_core::{Question, explain_asked};
 use payload_core::Oom;
 use progress_core::Teller;
-use script_core::{Lost, Steps, report_history};
-use std::alloc::{Allocator, Global};
+use script_core::report_history;
+use std::alloc::Allocator;
 use std::io::{Read, Write};
 use std::sync::Wait;
 use std::sync::ledger::Ledger;
@@ -46,27 +47,23 @@ fn history_of<'a, B: Allocator>(
 }
 
 /// Races the lines of the script that the input gives, and prints the report of what the race recorded. If the input is
-/// refused, `aside` gets the hint, if there is one.
-fn race_report<B: Allocator + Sync, T: Threads + Wait + Sync, R: Read, W: Write, L: Ledger>(
-    alloc: &B,
+/// refused, `notes` gets the hint, if there is one.
+fn race_report<B: Allocator + Sync, T: Threads + Wait + Sync, C, R: Read, W: Write, E, L: Ledger>(
+    setting: &Setting<'_, B, T, C>,
     reader: &mut R,
     writer: &mut W,
-    limits: Limits,
-    rt: &T,
-    form: Form,
-    aside: &mut Aside,
-    steps: &mut Steps<R, L>,
+    notes: &mut Notes<R, E, L>,
 ) -> Result<(), Fault>
-    requires { form ≢ forms.Session }
-    ensures ends { EndsAt subcommands.Race form limits (R.remaining reader.old) result (W.contents writer.old) (W.contents writer.new) }
+    ensures ends { (form : Form) → form ≢ forms.Session → EndsAt subcommands.Race form setting.now.limits (R.remaining reader.old) result
+        (W.contents writer.old) (W.contents writer.new) }
     ensures read { OnOk result (IsAtEnd (R.remaining reader.new)) }
     ensures unwritten { IfErr result (λ fault. KeepsBefore fault (W.contents writer.old) (W.contents writer.new)) }
     ensures memory { IfErr result TellsMemory }
-    ensures failed { FailsAs result steps.old steps.new }
+    ensures failed { FailsAs result notes.old.steps notes.new.steps }
 {
-    // form: the parameter `form` is for the contract alone
-    let script = read_script(alloc, reader, aside, steps)?;
-    let bench = race_script(rt, alloc, &script, limits);
+    let alloc = setting.host.alloc;
+    let script = read_script(alloc, reader, &mut notes.aside, &mut notes.steps)?;
+    let bench = race_script(setting.host.threads, alloc, &script, setting.limits);
     // form: drop before exit
     drop(script);
     let mut bench = bench?;
@@ -79,29 +76,26 @@ fn race_report<B: Allocator + Sync, T: Threads + Wait + Sync, R: Read, W: Write,
 }
 
 /// Races the lines of the script that the input gives, and prints the session of the bench that the race leaves. If the
-/// input is refused, `aside` gets the hint, if there is one.
-fn race_session<B: Allocator + Sync, T: Threads + Wait + Sync, R: Read, W: Write, L: Ledger>(
-    rt: &T,
-    heap: Global,
-    alloc: &B,
+/// input is refused, `notes` gets the hint, if there is one.
+fn race_session<B: Allocator + Sync, T: Threads + Wait + Sync, C, R: Read, W: Write, E, L: Ledger>(
+    setting: &Setting<'_, B, T, C>,
     reader: &mut R,
     writer: &mut W,
-    limits: Limits,
-    aside: &mut Aside,
-    steps: &mut Steps<R, L>,
+    notes: &mut Notes<R, E, L>,
 ) -> Result<(), Fault>
-    ensures ends { EndsAt subcommands.Race forms.Session limits (R.remaining reader.old) result (W.contents writer.old) (W.contents writer.new) }
+    ensures ends { EndsAt subcommands.Race forms.Session setting.now.limits (R.remaining reader.old) result (W.contents writer.old) (W.contents writer.new) }
     ensures read { OnOk result (IsAtEnd (R.remaining reader.new)) }
     ensures unwritten { IfErr result (λ fault. KeepsBefore fault (W.contents writer.old) (W.contents writer.new)) }
     ensures memory { IfErr result TellsMemory }
-    ensures failed { FailsAs result steps.old steps.new }
+    ensures failed { FailsAs result notes.old.steps notes.new.steps }
 {
-    let script = read_script(alloc, reader, aside, steps)?;
-    let bench = race_script(rt, alloc, &script, limits);
+    let alloc = setting.host.alloc;
+    let script = read_script(alloc, reader, &mut notes.aside, &mut notes.steps)?;
+    let bench = race_script(setting.host.threads, alloc, &script, setting.limits);
     // form: drop before exit
     drop(script);
     let mut bench = bench?;
-    let text = session_line(heap, &mut bench);
+    let text = session_line(setting.host.heap, &mut bench);
     bench.discard();
     let Ok(text) = text else {
         return Err(Fault::OutOfMemory);
@@ -121,27 +115,23 @@ fn question_of<'w>(chosen: command_line::Question<'w>) -> Question<'w>
 }
 
 /// Prints why presences are online at a node of the bench that the input gives, or why not. If the input is refused,
-/// `aside` gets the hint, if there is one.
-fn explain_bench<B: Allocator, R: Read, W: Write, L: Ledger>(
-    heap: Global,
-    alloc: &B,
+/// `notes` gets the hint, if there is one.
+fn explain_bench<B: Allocator, T, C, R: Read, W: Write, E, L: Ledger>(
+    setting: &Setting<'_, B, T, C>,
+    question: command_line::Question<'_>,
     reader: &mut R,
     writer: &mut W,
-    limits: Limits,
-    form: Form,
-    question: command_line::Question<'_>,
-    aside: &mut Aside,
-    steps: &mut Steps<R, L>,
+    notes: &mut Notes<R, E, L>,
 ) -> Result<(), Fault>
-    ensures ends { EndsAt (subcommands.Explain question.entry) form limits (R.remaining reader.old) result (W.contents writer.old) (W.contents writer.new) }
+    ensures ends { (form : Form) → EndsAt (subcommands.Explain question.entry) form setting.now.limits (R.remaining reader.old) result (W.contents writer.old)
+        (W.contents writer.new) }
     ensures read { OnOk result (IsAtEnd (R.remaining reader.new)) }
     ensures unwritten { IfErr result (λ fault. KeepsBefore fault (W.contents writer.old) (W.contents writer.new)) }
     ensures memory { IfErr result TellsMemory }
-    ensures failed { FailsAs result steps.old steps.new }
+    ensures failed { FailsAs result notes.old.steps notes.new.steps }
 {
-    // form: the parameter `form` is for the contract alone
-    let bench = read_bench(heap, alloc, reader, limits, aside, steps)?;
-    let told = explain_asked(&bench, alloc, question_of(question));
+    let bench = read_bench(setting, reader, notes)?;
+    let told = explain_asked(&bench, setting.host.alloc, question_of(question));
     // form: drop before exit
     bench.discard();
     // form: a `match`, as the proof cites what `Fault::from` ensures
@@ -153,34 +143,27 @@ fn explain_bench<B: Allocator, R: Read, W: Write, L: Ledger>(
 }
 
 /// Prints what would have made a difference to presences at a node of the bench that the input gives, or the run with
-/// one change. Lines on `errors` tell how many changes were tried. If the input is refused, `aside` gets the hint, if
+/// one change. Lines on `errors` tell how many changes were tried. If the input is refused, `notes` gets the hint, if
 /// there is one.
-fn tell_changes<B: Allocator, R: Read, W: Write, L: Ledger, C: Clock, E: Write>(
-    heap: Global,
-    alloc: &B,
+fn tell_changes<B: Allocator, T, C: Clock, R: Read, W: Write, E: Write, L: Ledger>(
+    setting: &Setting<'_, B, T, C>,
+    asked: Whatif<'_>,
     reader: &mut R,
     writer: &mut W,
-    limits: Limits,
-    form: Form,
-    question: command_line::Question<'_>,
-    change: Option<u64>,
-    aside: &mut Aside,
-    steps: &mut Steps<R, L>,
-    clock: &C,
     errors: &mut E,
+    notes: &mut Notes<R, E, L>,
 ) -> Result<(), Fault>
-    ensures ends { EndsAt (subcommands.Whatif question.entry change) form limits (R.remaining reader.old) result (W.contents writer.old)
-        (W.contents writer.new) }
+    ensures ends { (form : Form) → EndsAt (subcommands.Whatif asked.entry.question asked.entry.change) form setting.now.limits (R.remaining reader.old) result
+        (W.contents writer.old) (W.contents writer.new) }
     ensures read { OnOk result (IsAtEnd (R.remaining reader.new)) }
     ensures unwritten { IfErr result (λ fault. KeepsBefore fault (W.contents writer.old) (W.contents writer.new)) }
     ensures memory { IfErr result TellsMemory }
-    ensures failed { FailsAs result steps.old steps.new }
+    ensures failed { FailsAs result notes.old.steps notes.new.steps }
     ensures progress { TellsTried (E.contents errors.old) (E.contents errors.new) }
 {
-    // form: the parameter `form` is for the contract alone
-    let mut bench = read_bench(heap, alloc, reader, limits, aside, steps)?;
-    let mut teller = Teller::new(heap, clock, errors);
-    let told = tell_whatif(&mut bench, alloc, question, change, &mut teller);
+    let mut bench = read_bench(setting, reader, notes)?;
+    let mut teller = Teller::new(setting.host.heap, setting.host.clock, errors);
+    let told = tell_whatif(&mut bench, setting.host.alloc, asked, &mut teller);
     // form: drop before exit
     bench.discard();
     // form: a `match`, as the proof cites what `Fault::from` ensures
@@ -192,37 +175,26 @@ fn tell_changes<B: Allocator, R: Read, W: Write, L: Ledger, C: Clock, E: Write>(
 }
 
 /// Prints what the network could have made of the bench that the input gives, or a run that leads to one outcome. Lines
-/// on `errors` tell how far the walk has come. If the input is refused, `aside` gets the hint, if there is one.
-fn explore_bench<B: Allocator, R: Read, W: Write, L: Ledger, C: Clock, E: Write>(
-    heap: Global,
-    alloc: &B,
+/// on `errors` tell how far the walk has come. If the input is refused, `notes` gets the hint, if there is one.
+fn explore_bench<B: Allocator, T, C: Clock, R: Read, W: Write, E: Write, L: Ledger>(
+    setting: &Setting<'_, B, T, C>,
+    asked: Exploration<'_>,
     reader: &mut R,
     writer: &mut W,
-    limits: Limits,
-    form: Form,
-    about: About<'_>,
-    lost: usize,
-    again: usize,
-    states: usize,
-    outcome: Option<u64>,
-    aside: &mut Aside,
-    steps: &mut Steps<R, L>,
-    clock: &C,
     errors: &mut E,
+    notes: &mut Notes<R, E, L>,
 ) -> Result<(), Fault>
-    ensures ends { EndsAt (subcommands.Explore about.entry lost again states outcome) form limits (R.remaining reader.old) result
-        (W.contents writer.old) (W.contents writer.new) }
+    ensures ends { (form : Form) → EndsAt (subcommands.Explore asked.entry.about asked.entry.lost asked.entry.again asked.entry.states
+        asked.entry.outcome) form setting.now.limits (R.remaining reader.old) result (W.contents writer.old) (W.contents writer.new) }
     ensures read { OnOk result (IsAtEnd (R.remaining reader.new)) }
     ensures unwritten { IfErr result (λ fault. KeepsBefore fault (W.contents writer.old) (W.contents writer.new)) }
     ensures memory { IfErr result TellsMemory }
-    ensures failed { FailsAs result steps.old steps.new }
+    ensures failed { FailsAs result notes.old.steps notes.new.steps }
     ensures progress { TellsWalked (E.contents errors.old) (E.contents errors.new) }
 {
-    // form: the parameter `form` is for the contract alone
-    let mut bench = read_bench(heap, alloc, reader, limits, aside, steps)?;
-    let question = asked_of(about, lost, again, states);
-    let mut teller = Teller::new(heap, clock, errors);
-    let told = tell_explored(&mut bench, alloc, question, outcome, &mut teller);
+    let mut bench = read_bench(setting, reader, notes)?;
+    let mut teller = Teller::new(setting.host.heap, setting.host.clock, errors);
+    let told = tell_explored(&mut bench, setting.host.alloc, asked, &mut teller);
     // form: drop before exit
     bench.discard();
     // form: a `match`, as the proof cites what `Fault::from` ensures
@@ -234,58 +206,47 @@ fn explore_bench<B: Allocator, R: Read, W: Write, L: Ledger, C: Clock, E: Write>
 }
 
 /// Does what was chosen. At a prompt it answers each line before it reads the next. Else it reads the input first, and
-/// writes nothing before the whole text is ready. If the input is refused, `aside` gets the hint, if there is one.
-/// `limits` are those of the bench, unless the input is a session, which has its own. JSON, hints and lines on how far
-/// work has come take their memory from `heap`; benches and all other texts take theirs from `alloc`. `steps` counts
-/// the calls of `read`. On `errors` stand only the signs of a prompt on a terminal, how far long work has come, and
-/// what is missing from an import; `lost` notes if what is missing can't be written.
+/// writes nothing before the whole text is ready. On `errors` stand only the signs of a prompt on a terminal, how far
+/// long work has come, and what is missing from an import. `notes` gets the hint for an input that is refused, counts
+/// the calls of `read`, and notes if what is missing can't be written.
 pub fn answer<
     B: Allocator + Sync,
     T: Threads + Wait + Sync,
+    C: Clock,
     R: Read,
     W: Write,
     E: Write,
     L: Ledger,
-    C: Clock,
 >(
-    rt: &T,
-    heap: Global,
-    alloc: &B,
+    setting: &Setting<'_, B, T, C>,
     choice: Choice<'_>,
     reader: &mut R,
     writer: &mut W,
     errors: &mut E,
-    limits: Limits,
-    terminal: bool,
-    aside: &mut Aside,
-    lost: &mut Lost<E>,
-    steps: &mut Steps<R, L>,
-    clock: &C,
+    notes: &mut Notes<R, E, L>,
 ) -> Result<(), Fault>
-    ensures ends { EndsAt choice.entry.command choice.entry.form limits (R.remaining reader.old) result (W.contents writer.old) (W.contents writer.new) }
+    ensures ends { EndsAt choice.entry.command choice.entry.form setting.now.limits (R.remaining reader.old) result (W.contents writer.old)
+        (W.contents writer.new) }
     ensures read { OnOk result (IsReadBy choice.entry.command (R.remaining reader.old) (R.remaining reader.new)) }
     ensures unwritten { IfErr result (λ fault. KeepsBefore fault (W.contents writer.old) (W.contents writer.new)) }
     ensures memory { IfErr result TellsMemory }
-    ensures failed { FailsAs result steps.old steps.new }
-    ensures early { EndsSoon choice.entry.command limits result (R.remaining reader.old) (R.remaining reader.new) (W.contents writer.old)
+    ensures failed { FailsAs result notes.old.steps notes.new.steps }
+    ensures early { EndsSoon choice.entry.command setting.now.limits result (R.remaining reader.old) (R.remaining reader.new) (W.contents writer.old)
         (W.contents writer.new) }
-    ensures aside { TellsOn terminal limits choice.entry.command choice.entry.form (R.remaining reader.old) (E.contents errors.old) (E.contents errors.new) }
-    ensures told { IsEarly result ⊎ TellsWhole choice.entry.command choice.entry.form limits (R.remaining reader.old) lost.new (E.contents errors.old)
+    ensures aside { TellsOn setting.now.terminal setting.now.limits choice.entry.command choice.entry.form (R.remaining reader.old) (E.contents errors.old)
         (E.contents errors.new) }
+    ensures told { IsEarly result ⊎ TellsWhole choice.entry.command choice.entry.form setting.now.limits (R.remaining reader.old) notes.new.lost
+        (E.contents errors.old) (E.contents errors.new) }
 {
     match (choice.command, choice.form) {
-        (Subcommand::Play { strict }, form) => play_shown(
-            heap, alloc, reader, writer, limits, form, strict, aside, steps,
-        ),
-        (Subcommand::Load { strict }, form) => load_shown(
-            heap, alloc, reader, writer, limits, form, strict, aside, steps,
-        ),
-        (Subcommand::Race, Form::Session) => race_session(
-            rt, heap, alloc, reader, writer, limits, aside, steps,
-        ),
-        (Subcommand::Race, form) => race_report(
-            alloc, reader, writer, limits, rt, form, aside, steps,
-        ),
+        (Subcommand::Play { strict }, form) => {
+            play_shown(setting, form, strict, reader, writer, notes)
+        }
+        (Subcommand::Load { strict }, form) => {
+            load_shown(setting, form, strict, reader, writer, notes)
+        }
+        (Subcommand::Race, Form::Session) => race_session(setting, reader, writer, notes),
+        (Subcommand::Race, _) => race_report(setting, reader, writer, notes),
         (
             Subcommand::Import {
                 check,
@@ -293,13 +254,16 @@ pub fn answer<
                 lenient,
             },
             form,
-        ) => import_events(
-            heap, alloc, reader, writer, errors, limits, check, lines, lenient, form, aside, lost,
-            steps,
-        ),
-        (Subcommand::Step, _) => step_script(
-            heap, alloc, reader, writer, errors, limits, terminal, steps,
-        ),
+        ) => {
+            let wanted = ImportOptions {
+                check,
+                lines,
+                lenient,
+                form,
+            };
+            import_events(setting, wanted, reader, writer, errors, notes)
+        }
+        (Subcommand::Step, _) => step_script(setting, reader, writer, errors, &mut notes.steps),
         (
             Subcommand::Explore {
                 about,
@@ -308,23 +272,25 @@ pub fn answer<
                 states,
                 outcome,
             },
-            form,
-        ) => explore_bench(
-            heap, alloc, reader, writer, limits, form, about, lost, again, states, outcome, aside,
-            steps, clock, errors,
-        ),
-        (Subcommand::Draw(drawing), form) => draw_run(
-            heap, alloc, reader, writer, limits, form, drawing, aside, steps,
-        ),
-        (Subcommand::Page, form) => page_run(
-            heap, alloc, reader, writer, limits, form, aside, steps,
-        ),
-        (Subcommand::Explain(question), form) => explain_bench(
-            heap, alloc, reader, writer, limits, form, question, aside, steps,
-        ),
-        (Subcommand::Whatif { question, change }, form) => tell_changes(
-            heap, alloc, reader, writer, limits, form, question, change, aside, steps, clock,
-            errors,
-        ),
+            _,
+        ) => {
+            let asked = Exploration {
+                about,
+                lost,
+                again,
+                states,
+                outcome,
+            };
+            explore_bench(setting, asked, reader, writer, errors, notes)
+        }
+        (Subcommand::Draw(drawing), _) => draw_run(setting, drawing, reader, writer, notes),
+        (Subcommand::Page, _) => page_run(setting, reader, writer, notes),
+        (Subcommand::Explain(question), _) => {
+            explain_bench(setting, question, reader, writer, notes)
+        }
+        (Subcommand::Whatif { question, change }, _) => {
+            let asked = Whatif { question, change };
+            tell_changes(setting, asked, reader, writer, errors, notes)
+        }
     }
 }

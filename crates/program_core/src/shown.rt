@@ -11,14 +11,15 @@ ghost use Rattle.program_core.specs.Program.{EndsAt, FailsAs, KeepsBefore, Tells
 ghost use Rattle.program_core.specs.Shown.{EndsAsShown, IsWant, PrintsBench, PrintsPlay, RefusesBench, RefusesCalls, RefusesPlay, ShowsBench, ShowsScript, line_refused, act_refused, refused_act, refused_line};
 ghost use Rattle.program_core.specs.Texts.{session_text, text_bytes};
 
-use crate::aside::Aside;
 use crate::fault::{Fault, Refused};
+use crate::host::Setting;
 use crate::inputs::consoles_of;
+use crate::notes::Notes;
 use crate::text::{Text, bytes_of, print};
 use crate::texts::{read_script, session_line, tell_session};
 use bench_core::{Bench, Limits, TextSet};
 use command_line::Form;
-use script_core::{Played, Script, Steps, console_names, run_script};
+use script_core::{Played, Script, console_names, run_script};
 use std::alloc::{Allocator, Global};
 use std::io::{Read, Write};
 use std::sync::ledger::Ledger;
@@ -236,27 +237,32 @@ fn finish<W: Write, A: Allocator>(writer: &mut W, shown: &Shown<A>) -> Result<()
 }
 
 /// Reads and plays a script, and prints the play in the form that was chosen. If an act or an unwind was refused in a
-/// strict run, ends with the fault `Refused` once the text is written. If the input is refused, `aside` gets the hint,
-/// if there is one. `steps` counts the calls of `read`.
-pub fn play_shown<B: Allocator, R: Read, W: Write, L: Ledger>(
-    heap: Global,
-    alloc: &B,
-    reader: &mut R,
-    writer: &mut W,
-    limits: Limits,
+/// strict run, ends with the fault `Refused` once the text is written. If the input is refused, `notes` gets the hint,
+/// if there is one.
+pub fn play_shown<B: Allocator, T, C, R: Read, W: Write, E, L: Ledger>(
+    setting: &Setting<'_, B, T, C>,
     form: Form,
     strict: bool,
-    aside: &mut Aside,
-    steps: &mut Steps<R, L>,
+    reader: &mut R,
+    writer: &mut W,
+    notes: &mut Notes<R, E, L>,
 ) -> Result<(), Fault>
-    ensures ends { EndsAt (subcommands.Play strict) form limits (R.remaining reader.old) result (W.contents writer.old) (W.contents writer.new) }
+    ensures ends { EndsAt (subcommands.Play strict) form setting.now.limits (R.remaining reader.old) result (W.contents writer.old) (W.contents writer.new) }
     ensures read { OnOk result (IsAtEnd (R.remaining reader.new)) }
     ensures unwritten { IfErr result (λ fault. KeepsBefore fault (W.contents writer.old) (W.contents writer.new)) }
     ensures memory { IfErr result TellsMemory }
-    ensures failed { FailsAs result steps.old steps.new }
+    ensures failed { FailsAs result notes.old.steps notes.new.steps }
 {
-    let script = read_script(alloc, reader, aside, steps)?;
-    let shown = show_script(&script, heap, alloc, limits, form, strict);
+    let alloc = setting.host.alloc;
+    let script = read_script(alloc, reader, &mut notes.aside, &mut notes.steps)?;
+    let shown = show_script(
+        &script,
+        setting.host.heap,
+        alloc,
+        setting.limits,
+        form,
+        strict,
+    );
     // form: drop before exit
     drop(script);
     // form: each arm is a case of the proof
@@ -267,27 +273,25 @@ pub fn play_shown<B: Allocator, R: Read, W: Write, L: Ledger>(
 }
 
 /// Reads a session, plays it again, and prints that play in the form that was chosen. If a call was refused in a strict
-/// run, ends with the fault `Refused` once the text is written. If the input is refused, `aside` gets the hint, if
+/// run, ends with the fault `Refused` once the text is written. If the input is refused, `notes` gets the hint, if
 /// there is one.
-pub fn load_shown<B: Allocator, R: Read, W: Write, L: Ledger>(
-    heap: Global,
-    alloc: &B,
-    reader: &mut R,
-    writer: &mut W,
-    limits: Limits,
+pub fn load_shown<B: Allocator, T, C, R: Read, W: Write, E, L: Ledger>(
+    setting: &Setting<'_, B, T, C>,
     form: Form,
     strict: bool,
-    aside: &mut Aside,
-    steps: &mut Steps<R, L>,
+    reader: &mut R,
+    writer: &mut W,
+    notes: &mut Notes<R, E, L>,
 ) -> Result<(), Fault>
-    ensures ends { EndsAt (subcommands.Load strict) form limits (R.remaining reader.old) result (W.contents writer.old) (W.contents writer.new) }
+    ensures ends { EndsAt (subcommands.Load strict) form setting.now.limits (R.remaining reader.old) result (W.contents writer.old) (W.contents writer.new) }
     ensures read { OnOk result (IsAtEnd (R.remaining reader.new)) }
     ensures unwritten { IfErr result (λ fault. KeepsBefore fault (W.contents writer.old) (W.contents writer.new)) }
     ensures memory { IfErr result TellsMemory }
-    ensures failed { FailsAs result steps.old steps.new }
+    ensures failed { FailsAs result notes.old.steps notes.new.steps }
 {
-    // form: the parameter `limits` is for the contract alone
-    let told = tell_session(heap, alloc, reader, aside, steps)?;
+    let heap = setting.host.heap;
+    let alloc = setting.host.alloc;
+    let told = tell_session(heap, alloc, reader, &mut notes.aside, &mut notes.steps)?;
     // form: each arm is a case of the proof
     match show_session(heap, alloc, told, form, strict) {
         Ok(shown) => finish(writer, &shown),

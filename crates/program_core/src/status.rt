@@ -7,12 +7,14 @@ ghost use Rattle.stream_core.specs.Steps.{Steps as Count};
 
 use crate::aside::Aside;
 use crate::fault::Fault;
+use crate::host::{Host, Setting};
+use crate::notes::Notes;
 use crate::printing::answer;
 use bench_core::Limits;
 use clap::error::ErrorKind;
 use command_line::{Choice, Subcommand, choice};
 use payload_core::Oom;
-use script_core::{Lost, Steps, write_out};
+use script_core::{Steps, write_out};
 use std::alloc::{Allocator, Global};
 use std::convert::AsStr;
 use std::io::{Read, Write};
@@ -101,83 +103,62 @@ fn announce<E: Write>(heap: Global, command: Subcommand<'_>, errors: &mut E, ter
 fn answer_on<
     B: Allocator + Sync,
     T: Threads + Wait + Sync,
+    C: Clock,
     R: Read,
     W: Write,
     E: Write,
     L: Ledger,
-    C: Clock,
 >(
-    rt: &T,
-    heap: Global,
-    alloc: &B,
+    setting: &Setting<'_, B, T, C>,
     choice: Choice<'_>,
     reader: &mut R,
     writer: &mut W,
     errors: &mut E,
-    limits: Limits,
-    terminal: bool,
-    aside: &mut Aside,
-    lost: &mut Lost<E>,
-    steps: &mut Steps<R, L>,
-    clock: &C,
+    notes: &mut Notes<R, E, L>,
 ) -> Result<(), Fault>
-    ensures ends { EndsAt choice.entry.command choice.entry.form limits (R.remaining reader.old) result (W.contents writer.old) (W.contents writer.new) }
+    ensures ends { EndsAt choice.entry.command choice.entry.form setting.now.limits (R.remaining reader.old) result (W.contents writer.old)
+        (W.contents writer.new) }
     ensures read { OnOk result (IsReadBy choice.entry.command (R.remaining reader.old) (R.remaining reader.new)) }
     ensures unwritten { IfErr result (λ fault. KeepsBefore fault (W.contents writer.old) (W.contents writer.new)) }
     ensures memory { IfErr result TellsMemory }
-    ensures failed { FailsAs result steps.old steps.new }
-    ensures early { EndsSoon choice.entry.command limits result (R.remaining reader.old) (R.remaining reader.new) (W.contents writer.old)
+    ensures failed { FailsAs result notes.old.steps notes.new.steps }
+    ensures early { EndsSoon choice.entry.command setting.now.limits result (R.remaining reader.old) (R.remaining reader.new) (W.contents writer.old)
         (W.contents writer.new) }
-    ensures aside { TellsBeside terminal limits choice.entry.command choice.entry.form (R.remaining reader.old) (E.contents errors.old)
+    ensures aside { TellsBeside setting.now.terminal setting.now.limits choice.entry.command choice.entry.form (R.remaining reader.old) (E.contents errors.old)
         (E.contents errors.new) }
-    ensures told { IsEarly result ⊎ TellsBehind terminal limits choice.entry.command choice.entry.form (R.remaining reader.old) lost.new
-        (E.contents errors.old) (E.contents errors.new) }
+    ensures told { IsEarly result ⊎ TellsBehind setting.now.terminal setting.now.limits choice.entry.command choice.entry.form
+        (R.remaining reader.old) notes.new.lost (E.contents errors.old) (E.contents errors.new) }
 {
-    announce(heap, choice.command, errors, terminal);
-    answer(
-        rt, heap, alloc, choice, reader, writer, errors, limits, terminal, aside, lost, steps,
-        clock,
-    )
+    announce(setting.host.heap, choice.command, errors, setting.terminal);
+    answer(setting, choice, reader, writer, errors, notes)
 }
 
 /// Does what `answer_on` does, and gives the status. Prints a fault and its hint on `errors`, as `tell_fault` does.
 fn run_choice<
     B: Allocator + Sync,
     T: Threads + Wait + Sync,
+    C: Clock,
     R: Read,
     W: Write,
     E: Write,
     L: Ledger,
-    C: Clock,
 >(
-    rt: &T,
-    heap: Global,
-    alloc: &B,
+    setting: &Setting<'_, B, T, C>,
     choice: Choice<'_>,
     reader: &mut R,
     writer: &mut W,
     errors: &mut E,
-    limits: Limits,
-    terminal: bool,
-    lost: &mut Lost<E>,
-    steps: &mut Steps<R, L>,
-    clock: &C,
+    notes: &mut Notes<R, E, L>,
 ) -> u8
-    ensures exits { Exits choice.entry (R.remaining reader.old) (R.remaining reader.new) limits result (W.contents writer.old) (W.contents writer.new)
-        steps.old steps.new }
-    ensures aside { result ≡ 0 → TellsBeside terminal limits choice.entry.command choice.entry.form (R.remaining reader.old) (E.contents errors.old)
-        (E.contents errors.new) }
-    ensures told { IsEnd result → TellsBehind terminal limits choice.entry.command choice.entry.form (R.remaining reader.old) lost.new (E.contents errors.old)
-        (E.contents errors.new) }
+    ensures exits { Exits choice.entry (R.remaining reader.old) (R.remaining reader.new) setting.now.limits result (W.contents writer.old)
+        (W.contents writer.new) notes.old.steps notes.new.steps }
+    ensures aside { result ≡ 0 → TellsBeside setting.now.terminal setting.now.limits choice.entry.command choice.entry.form (R.remaining reader.old)
+        (E.contents errors.old) (E.contents errors.new) }
+    ensures told { IsEnd result → TellsBehind setting.now.terminal setting.now.limits choice.entry.command choice.entry.form
+        (R.remaining reader.old) notes.new.lost (E.contents errors.old) (E.contents errors.new) }
 {
-    let mut aside = Aside::new(heap);
-    let answer = answer_on(
-        rt, heap, alloc, choice, reader, writer, errors, limits, terminal, &mut aside, lost, steps,
-        clock,
-    );
-    tell_fault(answer, &aside, errors);
-    // form: drop before exit
-    drop(aside);
+    let answer = answer_on(setting, choice, reader, writer, errors, notes);
+    tell_fault(answer, &notes.aside, errors);
     status_of(answer)
 }
 
@@ -240,126 +221,93 @@ fn refuse<W: Write, E: Write>(
     }
 }
 
-/// Does what the words after the program's name ask for, on benches with these limits, and gives the status. A
-/// session's bench has the session's limits. Words, JSON, hints, and lines on what is read and how far work has come
-/// take their memory from `heap`; benches and all other texts take theirs from `alloc`. If the reader is a terminal, a
-/// prompt shows its signs on `errors`, and any other subcommand says on `errors` that it reads standard input. `lost`
-/// notes if what is missing from an import can't be written to `errors`. `steps` counts the calls of `read`. `clock`
-/// decides when long work tells how far it has come.
+/// Does what the words after the program's name ask for, and gives the status. `notes` counts the calls of `read`, and
+/// notes if what is missing from an import can't be written to `errors`.
 pub fn program_counted<
     S: AsStr,
     B: Allocator + Sync,
     T: Threads + Wait + Sync,
+    C: Clock,
     R: Read,
     W: Write,
     E: Write,
     L: Ledger,
-    C: Clock,
 >(
-    rt: &T,
-    heap: Global,
-    alloc: &B,
+    setting: &Setting<'_, B, T, C>,
     words: &[S],
     reader: &mut R,
     writer: &mut W,
     errors: &mut E,
-    limits: Limits,
-    terminal: bool,
-    lost: &mut Lost<E>,
-    steps: &mut Steps<R, L>,
-    clock: &C,
+    notes: &mut Notes<R, E, L>,
 ) -> u8
-    ensures ends { EndsProgram (map S.text words.now) (R.remaining reader.old) (R.remaining reader.new) limits result (W.contents writer.old)
-        (W.contents writer.new) steps.old steps.new }
-    ensures quiet { result ≡ 0 → IsQuietOn terminal limits (map S.text words.now) (R.remaining reader.old) (E.contents errors.old) (E.contents errors.new) }
-    ensures told { IsEnd result → TellsAsChosen terminal limits (map S.text words.now) (R.remaining reader.old) lost.new (E.contents errors.old)
+    ensures ends { EndsProgram (map S.text words.now) (R.remaining reader.old) (R.remaining reader.new) setting.now.limits result (W.contents writer.old)
+        (W.contents writer.new) notes.old.steps notes.new.steps }
+    ensures quiet { result ≡ 0 → IsQuietOn setting.now.terminal setting.now.limits (map S.text words.now) (R.remaining reader.old) (E.contents errors.old)
         (E.contents errors.new) }
+    ensures told { IsEnd result → TellsAsChosen setting.now.terminal setting.now.limits (map S.text words.now) (R.remaining reader.old) notes.new.lost
+        (E.contents errors.old) (E.contents errors.new) }
 {
+    let heap = setting.host.heap;
     match choice(heap, words) {
-        Ok(choice) => run_choice(
-            rt, heap, alloc, choice, reader, writer, errors, limits, terminal, lost, steps, clock,
-        ),
+        Ok(choice) => run_choice(setting, choice, reader, writer, errors, notes),
         Err(fault) => refuse(heap, &fault, writer, errors),
     }
 }
 
-/// Like `program_counted`, but makes the count itself, with the ledger of `blank`, and drops the count and what `lost`
-/// notes. The words stand behind a second reference, since a function that takes a `Blank` may take references to
-/// `Sized` types alone.
+/// Like `program_counted`, but makes the notes itself, with a count on the ledger of `blank`, and drops them. The words
+/// stand behind a second reference, since a function that takes a `Blank` may take references to `Sized` types alone.
 fn program_from<
     S: AsStr,
     B: Allocator + Sync,
     T: Threads + Wait + Sync,
+    C: Clock,
     R: Read,
     W: Write,
     E: Write,
     L: Ledger,
-    C: Clock,
 >(
-    rt: &T,
-    heap: Global,
-    alloc: &B,
+    setting: &Setting<'_, B, T, C>,
     words: &&[S],
     reader: &mut R,
     writer: &mut W,
     errors: &mut E,
-    limits: Limits,
-    terminal: bool,
     blank: Blank,
-    clock: &C,
 ) -> u8
     requires name { blank.name ≡ L.name }
     requires parts { blank.parts ≡ L.parts }
     requires two { blank.parts ≡ 2 }
-    ensures ends { (before after : Count) × EndsProgram (map S.text words.now.now) (R.remaining reader.old) (R.remaining reader.new) limits result
-        (W.contents writer.old) (W.contents writer.new) before after }
-    ensures quiet { result ≡ 0 → IsQuietOn terminal limits (map S.text words.now.now) (R.remaining reader.old) (E.contents errors.old) (E.contents errors.new) }
+    ensures ends { (before after : Count) × EndsProgram (map S.text words.now.now) (R.remaining reader.old) (R.remaining reader.new) setting.now.limits
+        result (W.contents writer.old) (W.contents writer.new) before after }
+    ensures quiet { result ≡ 0 → IsQuietOn setting.now.terminal setting.now.limits (map S.text words.now.now) (R.remaining reader.old)
+        (E.contents errors.old) (E.contents errors.new) }
 {
-    let mut steps = Steps::<R, L>::new(blank);
-    let mut lost = Lost::nothing();
-    program_counted(
-        rt, heap, alloc, *words, reader, writer, errors, limits, terminal, &mut lost, &mut steps,
-        clock,
-    )
+    let steps = Steps::<R, L>::new(blank);
+    let mut notes = Notes::new(setting.host.heap, steps);
+    program_counted(setting, *words, reader, writer, errors, &mut notes)
 }
 
-/// Like `program_counted`, for callers that need neither the count of the calls of `read` nor what `lost` notes.
+/// Like `program_counted`, for callers that need none of the notes.
 pub fn program_within<
     S: AsStr,
     B: Allocator + Sync,
     T: Threads + Wait + Sync,
+    C: Clock,
     R: Read,
     W: Write,
     E: Write,
-    C: Clock,
->(
-    rt: &T,
-    heap: Global,
-    alloc: &B,
-    words: &[S],
-    reader: &mut R,
-    writer: &mut W,
-    errors: &mut E,
-    limits: Limits,
-    terminal: bool,
-    clock: &C,
-) -> u8
-    ensures ends { (before after : Count) × EndsProgram (map S.text words.now) (R.remaining reader.old) (R.remaining reader.new) limits result
+>(setting: &Setting<'_, B, T, C>, words: &[S], reader: &mut R, writer: &mut W, errors: &mut E) -> u8
+    ensures ends { (before after : Count) × EndsProgram (map S.text words.now) (R.remaining reader.old) (R.remaining reader.new) setting.now.limits result
         (W.contents writer.old) (W.contents writer.new) before after }
-    ensures quiet { result ≡ 0 → IsQuietOn terminal limits (map S.text words.now) (R.remaining reader.old) (E.contents errors.old) (E.contents errors.new) }
+    ensures quiet { result ≡ 0 → IsQuietOn setting.now.terminal setting.now.limits (map S.text words.now) (R.remaining reader.old) (E.contents errors.old)
+        (E.contents errors.new) }
 {
-    program_from::<S, B, T, R, W, E, Brand, C>(
-        rt,
-        heap,
-        alloc,
+    program_from::<S, B, T, C, R, W, E, Brand>(
+        setting,
         &words,
         reader,
         writer,
         errors,
-        limits,
-        terminal,
         Blank::new(2),
-        clock,
     )
 }
 
@@ -368,34 +316,19 @@ pub fn program<
     S: AsStr,
     B: Allocator + Sync,
     T: Threads + Wait + Sync,
+    C: Clock,
     R: Read,
     W: Write,
     E: Write,
-    C: Clock,
->(
-    rt: &T,
-    heap: Global,
-    alloc: &B,
-    words: &[S],
-    reader: &mut R,
-    writer: &mut W,
-    errors: &mut E,
-    clock: &C,
-) -> u8
+>(host: Host<'_, B, T, C>, words: &[S], reader: &mut R, writer: &mut W, errors: &mut E) -> u8
     ensures ends { (before after : Count) × EndsProgram (map S.text words.now) (R.remaining reader.old) (R.remaining reader.new) usual result
         (W.contents writer.old) (W.contents writer.new) before after }
     ensures quiet { result ≡ 0 → IsQuiet (map S.text words.now) (R.remaining reader.old) (E.contents errors.old) (E.contents errors.new) }
 {
-    program_within(
-        rt,
-        heap,
-        alloc,
-        words,
-        reader,
-        writer,
-        errors,
-        Limits::usual(),
-        false,
-        clock,
-    )
+    let setting = Setting {
+        host,
+        limits: Limits::usual(),
+        terminal: false,
+    };
+    program_within(&setting, words, reader, writer, errors)
 }

@@ -8,6 +8,14 @@ use progress_core::{Tried, Watch};
 use std::alloc::Allocator;
 use whatif_report::{Question, WhatifFault, run_with_change, whatif_asked};
 
+/// What `whatif` is asked.
+#[derive(Clone, Copy)]
+pub struct Whatif<'w> {
+    pub question: command_line::Question<'w>,
+    /// The number of the change whose run is wanted; `None` for the changes themselves.
+    pub change: Option<u64>,
+}
+
 /// The question that was chosen, as `whatif_report` takes it.
 fn question_of<'w>(chosen: command_line::Question<'w>) -> Question<'w>
     ensures { result ≡ question_of chosen.entry }
@@ -19,21 +27,21 @@ fn question_of<'w>(chosen: command_line::Question<'w>) -> Question<'w>
     }
 }
 
-/// The changes that would have made a difference; or, given the number of a `change`, the run with that change, as a
-/// script. Tells `watch` how many changes were tried.
+/// The changes that would have made a difference; or, if the number of a change is given, the run with that change, as
+/// a script. Tells `watch` how many changes were tried.
 pub fn tell_whatif<'a, B: Allocator, W: Watch<Tried>>(
     bench: &mut Bench<'a, B>,
     alloc: &'a B,
-    question: command_line::Question<'_>,
-    change: Option<u64>,
+    asked: Whatif<'_>,
     watch: &mut W,
 ) -> Result<String<&'a B>, WhatifFault>
-    ensures told { IfOk result (λ text. TellsWhatif bench.old question.entry change (string_bytes text)) }
-    ensures refused { IfErr result (RefusesWhatif bench.old question.entry change) }
+    ensures told { IfOk result (λ text. TellsWhatif bench.old asked.entry.question asked.entry.change (string_bytes text)) }
+    ensures refused { IfErr result (RefusesWhatif bench.old asked.entry.question asked.entry.change) }
     ensures watched { Watched W.told watch.old watch.new }
 {
-    match change {
-        None => whatif_asked(bench, alloc, question_of(question), watch),
-        Some(number) => run_with_change(bench, alloc, question_of(question), number, watch),
+    let question = question_of(asked.question);
+    match asked.change {
+        None => whatif_asked(bench, alloc, question, watch),
+        Some(number) => run_with_change(bench, alloc, question, number, watch),
     }
 }

@@ -6,11 +6,11 @@
 //! script, and step by step), `report_core` (names and steps as they are printed), `progress_core` (a watcher that
 //! tells nobody) and `bench_core` (benches). It names the plain types of the crates below.
 //!
-//! The modules in reading order: `prompt_fault`, why a prompt ends early; `fault_line`, a fault as a prompt prints it;
-//! `sent`, what a node has sent; `runs` and `own`, the answers to the prompt's own lines; `answering`, the answer to a
-//! line; `quit`, the line that ends a prompt; `out`, bytes that go out at once; `signs`, the sign before a line;
-//! `stepping`, a prompt from a reader to a writer. `laws` says that what a prompt prints for a script without faults is
-//! the script's report.
+//! The modules in reading order: `prompt_fault`, why a prompt ends early; `setting`, what a prompt runs with;
+//! `fault_line`, a fault as a prompt prints it; `sent`, what a node has sent; `runs` and `own`, the answers to the
+//! prompt's own lines; `answering`, the answer to a line; `quit`, the line that ends a prompt; `out`, bytes that go out
+//! at once; `signs`, the sign before a line; `stepping`, a prompt from a reader to a writer. `laws` says that what a
+//! prompt prints for a script without faults is the script's report.
 #![tactic(auto)]
 
 mod answering;
@@ -22,8 +22,10 @@ mod prompt_fault;
 mod quit;
 mod runs;
 mod sent;
+mod setting;
 mod signs;
 mod stepping;
 
 pub use prompt_fault::PromptFault;
+pub use setting::PromptSetting;
 pub use stepping::{step, step_counted};

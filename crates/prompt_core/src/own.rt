@@ -7,9 +7,10 @@ ghost use Rattle.prompt_core.specs.Answers.{alone, changes, changes_at, explaine
 
 use crate::fault_line::{put_fault, put_text};
 use crate::runs::put_run;
+use crate::setting::PromptSetting;
 use bench_core::Bench;
 use explain_core::{AskFault, Question, explain_asked};
-use grammar_core::{FaultKind, words_of};
+use grammar_core::{FaultKind, ScriptFault, words_of};
 use payload_core::Oom;
 use progress_core::Silent;
 use run_core::Prompt;
@@ -173,32 +174,32 @@ fn put_changes<'a, B: Allocator>(
     put_whatif(bench, alloc, answer, number, question)
 }
 
-/// Appends what a line with these words asks for, if the first word is one of the prompt's own; else the fault `kind`,
-/// with which a script would refuse the line.
+/// Appends what a line with these words asks for, if the first word is one of the prompt's own; else `fault`, with which
+/// a script would refuse the line.
 #[tactic(auto, unfolding(crate::specs::Answers::worded))]
 fn put_worded<'a, B: Allocator>(
     prompt: &Prompt<'a, B>,
-    heap: Global,
-    alloc: &'a B,
+    setting: &PromptSetting<'a, '_, B>,
     answer: &mut Vec<u8, &'a B>,
-    help: &str,
-    number: u64,
-    kind: FaultKind,
+    fault: ScriptFault,
     words: &[&str],
 ) -> Result<(), Oom>
-    ensures { OnOk result (answer.new.items ≡ answer.old.items ++ worded help.now prompt.now number kind (map (λ word. word.now) words.now)) }
+    ensures { OnOk result (answer.new.items ≡ answer.old.items ++ worded setting.now.help.now prompt.now fault.line fault.kind
+        (map (λ word. word.now) words.now)) }
 {
+    let alloc = setting.alloc;
+    let number = fault.line;
     let [first, rest @ ..] = words else {
-        return put_fault(alloc, answer, number, kind);
+        return put_fault(alloc, answer, number, fault.kind);
     };
     if *first == ":help" {
-        return put_help(alloc, answer, help, number, rest);
+        return put_help(alloc, answer, setting.help, number, rest);
     }
     if *first == ":quit" {
         return put_quit(alloc, answer, number, rest);
     }
     if *first == ":save" {
-        return put_save(prompt, heap, alloc, answer, number, rest);
+        return put_save(prompt, setting.heap, alloc, answer, number, rest);
     }
     if *first == ":explain" {
         return put_explained(prompt, alloc, answer, number, rest);
@@ -206,7 +207,7 @@ fn put_worded<'a, B: Allocator>(
     if *first == ":whatif" {
         return put_changes(prompt, alloc, answer, number, rest);
     }
-    put_run(prompt, alloc, answer, number, kind, first, rest)
+    put_run(prompt, alloc, answer, fault, first, rest)
 }
 
 /// Whether a line with this fault may be one of the prompt's own. A script refuses the prompt's own lines with
@@ -217,29 +218,26 @@ fn may_be_own(kind: FaultKind) -> bool
     matches!(kind, FaultKind::UnknownWord | FaultKind::NoNodes)
 }
 
-/// Appends the answer to a line that a script would refuse with the fault `kind`: what the line asks for, if
-/// `may_be_own` holds of `kind` and the line is one of the prompt's own; else the fault. If `may_be_own` holds, the
-/// line must be text.
+/// Appends the answer to a line that a script would refuse with this fault: what the line asks for, if `may_be_own`
+/// holds of the fault's kind and the line is one of the prompt's own; else the fault. If `may_be_own` holds, the line
+/// must be text.
 #[tactic(auto, unfolding(crate::specs::Answers::own_answer))]
 pub fn put_own<'a, B: Allocator>(
     prompt: &Prompt<'a, B>,
-    heap: Global,
-    alloc: &'a B,
+    setting: &PromptSetting<'a, '_, B>,
     answer: &mut Vec<u8, &'a B>,
-    help: &str,
-    number: u64,
+    fault: ScriptFault,
     line: &[u8],
-    kind: FaultKind,
 ) -> Result<(), Oom>
-    requires { may_be_own kind ≡ true → is_text line.now ≡ true }
-    ensures { OnOk result (answer.new.items ≡ answer.old.items ++ own_answer help.now prompt.now number line.now kind) }
+    requires { may_be_own fault.kind ≡ true → is_text line.now ≡ true }
+    ensures { OnOk result (answer.new.items ≡ answer.old.items ++ own_answer setting.now.help.now prompt.now fault.line line.now fault.kind) }
 {
-    if !may_be_own(kind) {
-        return put_fault(alloc, answer, number, kind);
+    if !may_be_own(fault.kind) {
+        return put_fault(setting.alloc, answer, fault.line, fault.kind);
     }
     let Ok(text) = str::from_utf8(line) else {
         unreachable!()
     };
-    let words = words_of(alloc, text)?;
-    put_worded(prompt, heap, alloc, answer, help, number, kind, &words)
+    let words = words_of(setting.alloc, text)?;
+    put_worded(prompt, setting, answer, fault, &words)
 }

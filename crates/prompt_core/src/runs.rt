@@ -7,7 +7,7 @@ ghost use Rattle.prompt_core.specs.Answers.{alone, drawn, run_word, script_withi
 use crate::fault_line::{put_fault, put_text};
 use crate::sent::put_sent;
 use bench_core::Bench;
-use grammar_core::{FaultKind, LONGEST_SCRIPT};
+use grammar_core::{FaultKind, LONGEST_SCRIPT, ScriptFault};
 use payload_core::Oom;
 use picture_core::draw_whole;
 use run_core::Prompt;
@@ -181,25 +181,25 @@ fn put_told_sent<'a, B: Allocator>(
     put_sent_at(bench, alloc, answer, number, node)
 }
 
-/// Appends what a line with the first word `first` and then `words` prints of the run; the fault `kind`, if `first` is
-/// none of `:draw`, `:steps`, `:script` and `:sent`.
+/// Appends what a line with the first word `first` and then `words` prints of the run; `fault`, with which a script would
+/// refuse the line, if `first` is none of `:draw`, `:steps`, `:script` and `:sent`.
 #[tactic(auto, unfolding(crate::specs::Answers::run_word))]
 pub fn put_run<'a, B: Allocator>(
     prompt: &Prompt<'a, B>,
     alloc: &'a B,
     answer: &mut Vec<u8, &'a B>,
-    number: u64,
-    kind: FaultKind,
+    fault: ScriptFault,
     first: &str,
     words: &[&str],
 ) -> Result<(), Oom>
-    ensures { OnOk result (answer.new.items ≡ answer.old.items ++ run_word prompt.now number kind first.now (map (λ word. word.now) words.now)) }
+    ensures { OnOk result (answer.new.items ≡ answer.old.items ++ run_word prompt.now fault.line fault.kind first.now (map (λ word. word.now) words.now)) }
 {
+    let number = fault.line;
     match first {
         ":draw" => put_draw(prompt, alloc, answer, number, words),
         ":steps" => put_steps(prompt, alloc, answer, number, words),
         ":script" => put_script(prompt, alloc, answer, number, words),
         ":sent" => put_told_sent(prompt, alloc, answer, number, words),
-        _ => put_fault(alloc, answer, number, kind),
+        _ => put_fault(alloc, answer, number, fault.kind),
     }
 }

@@ -3,7 +3,7 @@
 //! the program prints and its other statuses are cases of `example_tests`.
 use clap::error::ErrorKind;
 use command_line::choice;
-use program_core::{Fault, program, run};
+use program_core::{Fault, Host, program, run};
 use progress_core::FakeClock;
 use script_core::{FakeReader, FakeWriter};
 use std::alloc::{Allocator, Global};
@@ -89,16 +89,13 @@ fn ended<T: Threads + Wait + Sync + Abort, B: Allocator + Sync>(
     let mut writer = FakeWriter::new(heap, room);
     let mut errors = FakeWriter::new(heap, errors_room);
     let clock = FakeClock::new(0);
-    let status = program(
-        rt,
+    let host = Host {
+        threads: rt,
         heap,
         alloc,
-        words,
-        reader,
-        &mut writer,
-        &mut errors,
-        &clock,
-    );
+        clock: &clock,
+    };
+    let status = program(host, words, reader, &mut writer, &mut errors);
     (status, writer, errors)
 }
 
@@ -389,16 +386,13 @@ fn tells_work<T: Threads + Wait + Sync + Abort>(
     let mut writer = FakeWriter::new(heap, 10_000);
     let mut errors = FakeWriter::new(heap, room);
     let clock = FakeClock::new(step);
-    let status = program(
-        rt,
+    let host = Host {
+        threads: rt,
         heap,
-        &heap,
-        &words,
-        &mut reader,
-        &mut writer,
-        &mut errors,
-        &clock,
-    );
+        alloc: &heap,
+        clock: &clock,
+    };
+    let status = program(host, &words, &mut reader, &mut writer, &mut errors);
     let is_so = status == 0 && errors.taken() == told.as_bytes();
     drop(errors);
     drop(writer);

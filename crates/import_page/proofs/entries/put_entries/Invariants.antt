@@ -8,10 +8,10 @@ use Rattle.import_page.proofs.entries.put_entries.Given as goal
 -- what is told of the rest, whatever it be, is the end of what is told of all
 abbrev pub invariant-loop-index : goal.invariant-loop-index
 invariant-loop-index g l = record {
-  bench : after_events (record { machine = l.bench; numbers = l.numbers }) (in_order (map note_of l.notes) (drop l.index l.order))
-      ≡ after_events (record { machine = l.fn.bench; numbers = l.fn.numbers }) (in_order (map note_of l.notes) l.order);
-  told : (told : List ℕ) × (string_bytes l.text ≡ string_bytes l.fn.text ++ told)
+  bench : after_events (record { machine = l.playback.bench; numbers = l.playback.numbers.items }) (in_order (map note_of l.import.notes.items) (drop l.index l.import.order.items))
+      ≡ after_events (record { machine = l.fn.playback.bench; numbers = l.fn.playback.numbers.items }) (in_order (map note_of l.import.notes.items) l.import.order.items);
+  told : (told : List ℕ) × (string_bytes l.playback.entries ≡ string_bytes l.fn.playback.entries ++ told)
       × ((rest : List ℕ) →
-      AreEntries (map (λ line. line.now) l.lines) (record { machine = l.bench; numbers = l.numbers }) l.index (in_order (map note_of l.notes) (drop l.index l.order)) rest →
-      AreEntries (map (λ line. line.now) l.lines) (record { machine = l.fn.bench; numbers = l.fn.numbers }) 0 (in_order (map note_of l.notes) l.order) (told ++ rest));
+      AreEntries (map (λ line. line.now) l.lines) (record { machine = l.playback.bench; numbers = l.playback.numbers.items }) l.index (in_order (map note_of l.import.notes.items) (drop l.index l.import.order.items)) rest →
+      AreEntries (map (λ line. line.now) l.lines) (record { machine = l.fn.playback.bench; numbers = l.fn.playback.numbers.items }) 0 (in_order (map note_of l.import.notes.items) l.import.order.items) (told ++ rest));
 }

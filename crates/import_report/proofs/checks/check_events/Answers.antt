@@ -1,4 +1,4 @@
-use Rattle.std.proofs.Common.{◌≡◌, ◌+◌, ◌<◌, ◌++◌, ◌∷◌, [], ℕ, Bool, List, length, map, drop, slice_index, refl, sym, ap, ◌∙◌, subst, append-nil, append_assoc, arith, string_bytes}
+use Rattle.std.proofs.Common.{◌≡◌, ◌+◌, ◌<◌, ◌++◌, ◌∷◌, [], ℕ, Bool, List, length, map, drop, slice_index, All, refl, sym, ap, ◌∙◌, subst, append-nil, append_assoc, arith, string_bytes}
 use Rattle.std.proofs.lemmas.List.{get_or-map, at_drop_more, at_drop_all}
 use Rattle.bench_core.specs.NameList.{Texts}
 use Rattle.import_core.specs.Notes.{Note, note_of}
@@ -14,18 +14,22 @@ loop-place-init g c = record { names = refl; told = ([], [], sym (append-nil c.a
 
 pub loop-place-preserved : goal.loop-place-preserved
 loop-place-preserved g c =
-    let order = c.args.order.now in
+    let order = c.args.import.now.order.items in
+    let places = c.deref-place-items.result.now in
+    let same : places ≡ order = c.deref-place-items.ensures.value in
     let i = c.loop-place.place-index in
-    let place : ℕ = slice_index order i in
-    let notes : List Note = map note_of c.args.notes.now in
+    let place : ℕ = slice_index places i in
+    let noted = c.args.import.now.notes.items in
+    let notes : List Note = map note_of noted in
     let names : Texts = c.args.bench.now.names in
-    let there : place < length c.args.notes.now = c.requires i 0 c.loop-place-test.true in
-    let note : Note = note_of c.index-notes-place.result in
+    let there : place < length noted = subst (All (λ p. p < length noted)) (sym same) c.requires i 0 c.loop-place-test.true in
+    let note : Note = note_of c.index-note.result.now in
     let others : List Note = in_order notes (drop (i + 1) order) in
     let at : note_at notes place ≡ note =
-    get_or-map note_of c.args.notes.now place c.index-notes-place.result no_note there ∙ ap note_of (sym c.index-notes-place.is) in
+    get_or-map note_of noted place c.index-note.result.now no_note there ∙ ap note_of (sym c.index-note.ensures) in
     let left : in_order notes (drop i order) ≡ note ∷ others =
-    at_drop_more (in_order notes) order i 0 c.loop-place-test.true ∙ ap (λ (n : Note). n ∷ others) at in
+    subst (λ (o : List ℕ). in_order notes (drop i o) ≡ note ∷ in_order notes (drop (i + 1) o)) same
+    (at_drop_more (in_order notes) places i 0 c.loop-place-test.true ∙ ap (λ (n : Note). n ∷ in_order notes (drop (i + 1) places)) at) in
     let all : List Note = in_order notes order in
     let first : Playing = record { machine = c.args.bench.now; numbers = c.args.numbers.now } in
     let p : Playing = record { machine = c.loop-place.bench; numbers = c.loop-place.numbers } in
@@ -55,15 +59,16 @@ loop-place-preserved g c =
 
 pub returns : goal.returns
 returns g c =
-    let order = c.args.order.now in
+    let order = c.args.import.now.order.items in
     let i = c.loop-place.place-index in
     let past = c.loop-place-test.false in
-    let notes : List Note = map note_of c.args.notes.now in
+    let sizes = ap length c.deref-place-items.ensures.value in
+    let notes : List Note = map note_of c.args.import.now.notes.items in
     let names : Texts = c.args.bench.now.names in
     let p : Playing = record { machine = c.loop-place.bench; numbers = c.loop-place.numbers } in
     let q : Playing = record { machine = c.args.bench.now; numbers = c.args.numbers.now } in
     let so = c.loop-place.invariant.told in
-    let none : in_order notes (drop i order) ≡ [] = at_drop_all (in_order notes) order i (omega (arith, past)) in
+    let none : in_order notes (drop i order) ≡ [] = at_drop_all (in_order notes) order i (omega (arith, past, sizes)) in
     let all : AreChecked names q (in_order notes order) (so.0 ++ []) (so.1 ++ []) =
     so.4 [] [] (subst (λ ns. AreChecked names p ns [] []) (sym none) (refl, refl)) in (
       so.0,

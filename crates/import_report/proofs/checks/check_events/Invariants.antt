@@ -10,6 +10,6 @@ invariant-loop-place g l = record {
   names : l.bench.names ≡ l.fn.bench.names;
   told : (found : List Bool) × (told : List ℕ) × (l.agreements.items ≡ l.fn.agreements.items ++ found) × (string_bytes l.text ≡ string_bytes l.fn.text ++ told)
       × ((later : List Bool) (rest : List ℕ) →
-      AreChecked l.fn.bench.names (record { machine = l.bench; numbers = l.numbers }) (in_order (map note_of l.notes) (drop l.place-index l.order)) later rest →
-      AreChecked l.fn.bench.names (record { machine = l.fn.bench; numbers = l.fn.numbers }) (in_order (map note_of l.notes) l.order) (found ++ later) (told ++ rest));
+      AreChecked l.fn.bench.names (record { machine = l.bench; numbers = l.numbers }) (in_order (map note_of l.import.notes.items) (drop l.place-index l.import.order.items)) later rest →
+      AreChecked l.fn.bench.names (record { machine = l.fn.bench; numbers = l.fn.numbers }) (in_order (map note_of l.import.notes.items) l.import.order.items) (found ++ later) (told ++ rest));
 }

@@ -1,4 +1,4 @@
-use Rattle.std.proofs.Common.{◌≡◌, ◌+◌, ◌<◌, ◌++◌, ◌∷◌, ℕ, List, length, map, drop, slice_index, sym, ap, ◌∙◌, append-nil, arith, string_bytes}
+use Rattle.std.proofs.Common.{◌≡◌, ◌+◌, ◌<◌, ◌++◌, ◌∷◌, ℕ, List, length, map, drop, slice_index, All, sym, ap, ◌∙◌, subst, append-nil, arith, string_bytes}
 use Rattle.std.proofs.lemmas.List.{get_or-map, at_drop_more, at_drop_all}
 use Rattle.bench_core.specs.NameList.{Texts}
 use Rattle.import_core.specs.Notes.{Note, note_of}
@@ -11,18 +11,22 @@ use Rattle.import_report.proofs.script.put_events.Goals as goal
 pub loop-place-preserved : goal.loop-place-preserved
 unfolding after_events
 loop-place-preserved g c =
-    let order = c.args.order.now in
+    let order = c.args.import.now.order.items in
+    let places = c.deref-place-items.result.now in
+    let same : places ≡ order = c.deref-place-items.ensures.value in
     let i = c.loop-place.place-index in
-    let place : ℕ = slice_index order i in
-    let notes : List Note = map note_of c.args.notes.now in
+    let place : ℕ = slice_index places i in
+    let noted = c.args.import.now.notes.items in
+    let notes : List Note = map note_of noted in
     let names : Texts = c.args.bench.now.names in
-    let there : place < length c.args.notes.now = c.requires i 0 c.loop-place-test.true in
-    let note : Note = note_of c.index-notes-place.result in
+    let there : place < length noted = subst (All (λ p. p < length noted)) (sym same) c.requires i 0 c.loop-place-test.true in
+    let note : Note = note_of c.index-note.result.now in
     let rest : List Note = in_order notes (drop (i + 1) order) in
     let at : note_at notes place ≡ note =
-    get_or-map note_of c.args.notes.now place c.index-notes-place.result no_note there ∙ ap note_of (sym c.index-notes-place.is) in
+    get_or-map note_of noted place c.index-note.result.now no_note there ∙ ap note_of (sym c.index-note.ensures) in
     let left : in_order notes (drop i order) ≡ note ∷ rest =
-    at_drop_more (in_order notes) order i 0 c.loop-place-test.true ∙ ap (λ (n : Note). n ∷ rest) at in
+    subst (λ (o : List ℕ). in_order notes (drop i o) ≡ note ∷ in_order notes (drop (i + 1) o)) same
+    (at_drop_more (in_order notes) places i 0 c.loop-place-test.true ∙ ap (λ (n : Note). n ∷ in_order notes (drop (i + 1) places)) at) in
     let p : Playing = record { machine = c.loop-place.bench; numbers = c.loop-place.numbers } in
     let q : Playing = record { machine = c.put_lines.new.bench; numbers = c.put_lines.new.numbers } in
     let after : q ≡ after_event p note =
@@ -40,22 +44,24 @@ loop-place-preserved g c =
 pub returns-clause-bench : goal.returns-clause-bench
 unfolding after_events
 returns-clause-bench g c =
-    let order = c.args.order.now in
+    let order = c.args.import.now.order.items in
     let i = c.loop-place.place-index in
     let past = c.loop-place-test.false in
-    let notes : List Note = map note_of c.args.notes.now in
+    let sizes = ap length c.deref-place-items.ensures.value in
+    let notes : List Note = map note_of c.args.import.now.notes.items in
     let p : Playing = record { machine = c.loop-place.bench; numbers = c.loop-place.numbers } in
-    ap (λ ns. (after_events p ns).machine) (sym (at_drop_all (in_order notes) order i (omega (arith, past)))) ∙ ap (λ (q : Playing). q.machine) c.loop-place.invariant.bench
+    ap (λ ns. (after_events p ns).machine) (sym (at_drop_all (in_order notes) order i (omega (arith, past, sizes)))) ∙ ap (λ (q : Playing). q.machine) c.loop-place.invariant.bench
 
 pub returns-clause-text : goal.returns-clause-text
 unfolding events_text
 returns-clause-text g c =
-    let order = c.args.order.now in
+    let order = c.args.import.now.order.items in
     let i = c.loop-place.place-index in
     let past = c.loop-place-test.false in
-    let notes : List Note = map note_of c.args.notes.now in
+    let sizes = ap length c.deref-place-items.ensures.value in
+    let notes : List Note = map note_of c.args.import.now.notes.items in
     let p : Playing = record { machine = c.loop-place.bench; numbers = c.loop-place.numbers } in
     let now = string_bytes c.loop-place.text in
     sym (append-nil now)
-    ∙ ap (λ ns. now ++ events_text c.args.told c.args.bench.now.names p ns) (sym (at_drop_all (in_order notes) order i (omega (arith, past))))
+    ∙ ap (λ ns. now ++ events_text c.args.told c.args.bench.now.names p ns) (sym (at_drop_all (in_order notes) order i (omega (arith, past, sizes))))
     ∙ c.loop-place.invariant.text

@@ -8,8 +8,8 @@ use Rattle.import_report.proofs.script.put_events.Given as goal
 abbrev pub invariant-loop-place : goal.invariant-loop-place
 invariant-loop-place g l = record {
   names : l.bench.names ≡ l.fn.bench.names;
-  bench : after_events (record { machine = l.bench; numbers = l.numbers }) (in_order (map note_of l.notes) (drop l.place-index l.order))
-      ≡ after_events (record { machine = l.fn.bench; numbers = l.fn.numbers }) (in_order (map note_of l.notes) l.order);
-  text : string_bytes l.text ++ events_text l.told l.fn.bench.names (record { machine = l.bench; numbers = l.numbers }) (in_order (map note_of l.notes) (drop l.place-index l.order))
-      ≡ string_bytes l.fn.text ++ events_text l.told l.fn.bench.names (record { machine = l.fn.bench; numbers = l.fn.numbers }) (in_order (map note_of l.notes) l.order);
+  bench : after_events (record { machine = l.bench; numbers = l.numbers }) (in_order (map note_of l.import.notes.items) (drop l.place-index l.import.order.items))
+      ≡ after_events (record { machine = l.fn.bench; numbers = l.fn.numbers }) (in_order (map note_of l.import.notes.items) l.import.order.items);
+  text : string_bytes l.text ++ events_text l.told l.fn.bench.names (record { machine = l.bench; numbers = l.numbers }) (in_order (map note_of l.import.notes.items) (drop l.place-index l.import.order.items))
+      ≡ string_bytes l.fn.text ++ events_text l.told l.fn.bench.names (record { machine = l.fn.bench; numbers = l.fn.numbers }) (in_order (map note_of l.import.notes.items) l.import.order.items);
 }

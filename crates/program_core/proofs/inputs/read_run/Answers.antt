@@ -15,7 +15,7 @@ returns-then-begins_object-clause-run g c =
     subst (λ (xs : List ℕ). IsFront known 67108865 xs) (sym c.deref-then-begins_object.ensures.value) c.in-Ok.ensures.front in
     let begins : begins_object bytes ≡ true =
     ap begins_object (c.deref-then-begins_object.ensures.value ∙ sym c.deref.ensures.value) ∙ sym c.begins_object.ensures ∙ c.if-begins_object.true in
-    session_gives c.args.limits bytes known c.load_bytes.result front begins c.load_bytes.ensures.long c.load_bytes.ensures.session
+    session_gives c.args.setting.now.limits bytes known c.load_bytes.result front begins c.load_bytes.ensures.long c.load_bytes.ensures.session
 
 pub returns-then-begins_object-clause-cause : goal.returns-then-begins_object-clause-cause
 returns-then-begins_object-clause-cause g c =
@@ -37,7 +37,7 @@ returns-clause-run g c =
     subst (λ (xs : List ℕ). IsFront known 67108865 xs) (sym c.deref-2.ensures.value) c.in-Ok.ensures.front in
     let begins : begins_object bytes ≡ false =
     ap begins_object (c.deref-2.ensures.value ∙ sym c.deref.ensures.value) ∙ sym c.begins_object.ensures ∙ c.if-begins_object.false in
-    script_gives c.args.limits bytes known c.play_bytes.result front begins c.play_bytes.ensures.played
+    script_gives c.args.setting.now.limits bytes known c.play_bytes.result front begins c.play_bytes.ensures.played
 
 pub returns-clause-cause : goal.returns-clause-cause
 returns-clause-cause g c =
@@ -53,4 +53,4 @@ pub returns-clause-read : goal.returns-clause-read
 returns-clause-read g c =
     let end : length c.deref-2.result.now < 67108865 → IsAtEnd (g.R.Read.remaining c.read_front.new.reader) =
     λ few. c.in-Ok.ensures.end (subst (λ (xs : List ℕ). length xs < 67108865) c.deref-2.ensures.value few) in
-    script_ends c.args.limits c.deref-2.result.now c.play_bytes.result (IsAtEnd (g.R.Read.remaining c.read_front.new.reader)) c.play_bytes.ensures.played end
+    script_ends c.args.setting.now.limits c.deref-2.result.now c.play_bytes.result (IsAtEnd (g.R.Read.remaining c.read_front.new.reader)) c.play_bytes.ensures.played end

@@ -1,35 +1,36 @@
 use Rattle.std.proofs.Common.{◌≡◌, ◌∙◌, refl, rules, ℕ, List, Err, subst, subst₂, sym}
-use Rattle.explore_report.specs.declared.question.Question.{Question as Asked}
 use Rattle.command_line.specs.declared.chosen.Subcommand.TheVariants.{Explore}
-use Rattle.program_core.specs.Explored.{RefusesExplored, TellsExplored}
+use Rattle.program_core.specs.Explored.{TellsExplored, asked_of}
 use Rattle.program_core.specs.Program.{EndsAt}
 use Rattle.program_core.specs.declared.fault.Fault.{Fault}
 use Rattle.program_core.proofs.Printed.{asked_explore, ends_explore, fails_not, refused_explore}
 use Rattle.progress_core.specs.Lines.{walked_line, TellsWalked}
 use Rattle.progress_core.proofs.Telling.{tells_nothing, told_nothing}
+use Rattle.command_line.specs.declared.chosen.Form.TheVariants as forms
 use Rattle.program_core.proofs.printing.explore_bench.Goals as goal
 
 -- the input gives no bench
 pub returns-in_err-bench-clause-ends : goal.returns-in_err-bench-clause-ends
-returns-in_err-bench-clause-ends g c = search (rules, refused_explore)
+returns-in_err-bench-clause-ends g c = λ form. search (rules, refused_explore)
 
 -- it does, and nothing is told of it
 pub returns-in-Err-clause-ends : goal.returns-in-Err-clause-ends
-returns-in-Err-clause-ends g c =
-    subst (λ (fault : Fault). EndsAt (Explore c.args.about c.args.lost c.args.again c.args.states c.args.outcome) c.args.form c.args.limits (g.R.Read.remaining c.args.reader.now) (Err fault)
+returns-in-Err-clause-ends g c = λ form.
+    subst (λ (fault : Fault). EndsAt (Explore c.args.asked.about c.args.asked.lost c.args.asked.again c.args.asked.states c.args.asked.outcome) form c.args.setting.now.limits (g.R.Read.remaining c.args.reader.now) (Err fault)
     (g.W.Write.contents c.args.writer.now) (g.W.Write.contents c.args.writer.now)) (sym c.from.ensures)
-    (asked_explore c.args.form c.args.limits (g.R.Read.remaining c.args.reader.now) (g.W.Write.contents c.args.writer.now) c.args.about c.args.lost c.args.again c.args.states c.args.outcome
+    (asked_explore form c.args.setting.now.limits (g.R.Read.remaining c.args.reader.now) (g.W.Write.contents c.args.writer.now) c.args.asked.about c.args.asked.lost c.args.asked.again c.args.asked.states c.args.asked.outcome
     c.in_ok-bench.bench c.in-Err.fault c.in_ok-bench.ensures.bench
-    (subst (λ (q : Asked). RefusesExplored c.in_ok-bench.bench q c.args.outcome c.in-Err.fault) c.asked_of-question.ensures c.in-Err.ensures.refused))
+    c.in-Err.ensures.refused)
 
 pub returns-clause-ends : goal.returns-clause-ends
-returns-clause-ends g c =
-    ends_explore c.args.form c.args.limits c.as_bytes.result.now _ _ c.args.about c.args.lost c.args.again c.args.states c.args.outcome _ _ c.print.result c.in_ok-bench.ensures.bench
-    (subst₂ (λ (q : Asked) (text : List ℕ). TellsExplored c.in_ok-bench.bench q c.args.outcome text) c.asked_of-question.ensures (sym c.as_bytes.ensures.value) c.in-Ok.ensures.told)
+returns-clause-ends g c = λ form.
+    ends_explore form c.args.setting.now.limits c.as_bytes.result.now _ _ c.args.asked.about c.args.asked.lost c.args.asked.again c.args.asked.states c.args.asked.outcome _ _ c.print.result c.in_ok-bench.ensures.bench
+    (subst (λ (text : List ℕ). TellsExplored c.in_ok-bench.bench (asked_of c.args.asked.about c.args.asked.lost c.args.asked.again c.args.asked.states) c.args.asked.outcome text)
+    (sym c.as_bytes.ensures.value) c.in-Ok.ensures.told)
     c.print.ensures
 
 pub returns-clause-failed : goal.returns-clause-failed
-returns-clause-failed g c = fails_not c.args.form c.args.limits c.as_bytes.result.now _ _ c.print.result _ _ c.print.ensures c.in_ok-bench.ensures.failed
+returns-clause-failed g c = fails_not forms.Report c.args.setting.now.limits c.as_bytes.result.now _ _ c.print.result _ _ c.print.ensures c.in_ok-bench.ensures.failed
 
 pub returns-in_err-bench-clause-progress : goal.returns-in_err-bench-clause-progress
 returns-in_err-bench-clause-progress g c = tells_nothing (λ work. walked_line work) _

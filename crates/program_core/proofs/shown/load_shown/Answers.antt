@@ -6,7 +6,7 @@ use Rattle.program_core.proofs.shown.load_shown.Goals as goal
 -- nothing is shown
 
 pub returns-in-Err-clause-ends : goal.returns-in-Err-clause-ends
-returns-in-Err-clause-ends g c = refused_load c.args.limits c.args.form c.args.strict _ _ c.in_ok-told.told.bench c.in-Err.fault c.in_ok-told.ensures.session c.in-Err.ensures.err
+returns-in-Err-clause-ends g c = refused_load c.args.setting.now.limits c.args.form c.args.strict _ _ c.in_ok-told.told.bench c.in-Err.fault c.in_ok-told.ensures.session c.in-Err.ensures.err
 
 pub returns-in-Err-clause-unwritten : goal.returns-in-Err-clause-unwritten
 returns-in-Err-clause-unwritten g c = refuses_keep_bench _ c.args.form c.in_ok-told.told.bench _ c.in-Err.ensures.err
@@ -21,7 +21,7 @@ returns-in-Err-clause-failed g c = refuses_fail_bench _ c.args.form c.in_ok-told
 
 pub returns-in-Ok-clause-ends : goal.returns-in-Ok-clause-ends
 returns-in-Ok-clause-ends g c =
-    ends_load c.args.limits c.args.form c.args.strict _ _ c.in_ok-told.told.bench (text_bytes c.in-Ok.shown.text) c.in-Ok.shown.refused c.finish.result _
+    ends_load c.args.setting.now.limits c.args.form c.args.strict _ _ c.in_ok-told.told.bench (text_bytes c.in-Ok.shown.text) c.in-Ok.shown.refused c.finish.result _
     c.in_ok-told.ensures.session c.in-Ok.ensures.ok c.finish.ensures
 
 pub returns-in-Ok-clause-read : goal.returns-in-Ok-clause-read

@@ -7,22 +7,22 @@ use Rattle.program_core.proofs.shown.play_shown.Goals as goal
 -- nothing is shown
 
 pub returns-in-Err-clause-ends : goal.returns-in-Err-clause-ends
-returns-in-Err-clause-ends g c = refused_play c.args.limits c.args.form c.args.strict _ _ (plain_script c.in_ok-script.script) c.in-Err.fault c.in_ok-script.ensures.script c.in-Err.ensures.err
+returns-in-Err-clause-ends g c = refused_play c.args.setting.now.limits c.args.form c.args.strict _ _ (plain_script c.in_ok-script.script) c.in-Err.fault c.in_ok-script.ensures.script c.in-Err.ensures.err
 
 pub returns-in-Err-clause-unwritten : goal.returns-in-Err-clause-unwritten
-returns-in-Err-clause-unwritten g c = refuses_keep _ c.args.form c.args.limits (plain_script c.in_ok-script.script) _ c.in-Err.ensures.err
+returns-in-Err-clause-unwritten g c = refuses_keep _ c.args.form c.args.setting.now.limits (plain_script c.in_ok-script.script) _ c.in-Err.ensures.err
 
 pub returns-in-Err-clause-memory : goal.returns-in-Err-clause-memory
-returns-in-Err-clause-memory g c = refuses_memory _ c.args.form c.args.limits (plain_script c.in_ok-script.script) c.in-Err.ensures.err
+returns-in-Err-clause-memory g c = refuses_memory _ c.args.form c.args.setting.now.limits (plain_script c.in_ok-script.script) c.in-Err.ensures.err
 
 pub returns-in-Err-clause-failed : goal.returns-in-Err-clause-failed
-returns-in-Err-clause-failed g c = refuses_fail _ c.args.form c.args.limits (plain_script c.in_ok-script.script) _ _ c.in-Err.ensures.err c.in_ok-script.ensures.failed
+returns-in-Err-clause-failed g c = refuses_fail _ c.args.form c.args.setting.now.limits (plain_script c.in_ok-script.script) _ _ c.in-Err.ensures.err c.in_ok-script.ensures.failed
 
 -- a text is
 
 pub returns-in-Ok-clause-ends : goal.returns-in-Ok-clause-ends
 returns-in-Ok-clause-ends g c =
-    ends_play c.args.limits c.args.form c.args.strict _ _ (plain_script c.in_ok-script.script) (text_bytes c.in-Ok.shown.text) c.in-Ok.shown.refused c.finish.result _
+    ends_play c.args.setting.now.limits c.args.form c.args.strict _ _ (plain_script c.in_ok-script.script) (text_bytes c.in-Ok.shown.text) c.in-Ok.shown.refused c.finish.result _
     c.in_ok-script.ensures.script c.in-Ok.ensures.ok c.finish.ensures
 
 pub returns-in-Ok-clause-read : goal.returns-in-Ok-clause-read

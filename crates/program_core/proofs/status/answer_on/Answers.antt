@@ -4,10 +4,10 @@ use Rattle.program_core.proofs.status.answer_on.Goals as goal
 -- what was told first, and what behind it
 pub returns-clause-aside : goal.returns-clause-aside
 returns-clause-aside g c =
-    beside c.args.terminal c.args.limits c.args.choice.command c.args.choice.form (g.R.Read.remaining c.args.reader.now) (g.E.Write.contents c.args.errors.now)
+    beside c.args.setting.now.terminal c.args.setting.now.limits c.args.choice.command c.args.choice.form (g.R.Read.remaining c.args.reader.now) (g.E.Write.contents c.args.errors.now)
     (g.E.Write.contents c.announce.new.errors) (g.E.Write.contents c.answer.new.errors) c.announce.ensures c.answer.ensures.aside
 
 pub returns-clause-told : goal.returns-clause-told
 returns-clause-told g c =
-    behind c.args.terminal c.args.limits c.args.choice.command c.args.choice.form (g.R.Read.remaining c.args.reader.now) (g.E.Write.contents c.args.errors.now)
-    (g.E.Write.contents c.announce.new.errors) (g.E.Write.contents c.answer.new.errors) c.answer.new.lost c.answer.result c.announce.ensures c.answer.ensures.told
+    behind c.args.setting.now.terminal c.args.setting.now.limits c.args.choice.command c.args.choice.form (g.R.Read.remaining c.args.reader.now) (g.E.Write.contents c.args.errors.now)
+    (g.E.Write.contents c.announce.new.errors) (g.E.Write.contents c.answer.new.errors) c.answer.new.notes.lost c.answer.result c.announce.ensures c.answer.ensures.told

@@ -15,5 +15,5 @@ returns-in-Ok-clause-told g c = λ end. inl (c.in-Ok.choice, c.in-Ok.ensures.cho
 
 pub returns-in-Err-clause-told : goal.returns-in-Err-clause-told
 returns-in-Err-clause-told g c = λ end.
-    refused_told c.args.terminal c.args.limits _ _ _ _ _ (kind_of c.in-Err.fault) c.refuse.result c.in-Err.ensures.refused c.refuse.ensures.quiet
+    refused_told c.args.setting.now.terminal c.args.setting.now.limits _ _ _ _ _ (kind_of c.in-Err.fault) c.refuse.result c.in-Err.ensures.refused c.refuse.ensures.quiet
     c.refuse.ensures.no_end end

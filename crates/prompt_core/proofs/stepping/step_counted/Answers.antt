@@ -14,7 +14,7 @@ returns-clause-answers g c =
     let input = g.R.Read.remaining c.args.reader.now in
     let output = g.W.Write.contents c.args.writer.now in
     let written = g.W.Write.contents c.answer_each-ended.new.writer in
-    subst (λ (l : Limits). OnOk c.answer_each-ended.result (Answers c.args.help.now l input output written))
+    subst (λ (l : Limits). OnOk c.answer_each-ended.result (Answers c.args.setting.now.help.now l input output written))
     (ap (λ (p : Prompt). p.limits) c.new-prompt.ensures) c.answer_each-ended.ensures.answers
 
 pub returns-clause-signs : goal.returns-clause-signs
@@ -22,5 +22,5 @@ returns-clause-signs g c =
     let input = g.R.Read.remaining c.args.reader.now in
     let told = g.E.Write.contents c.args.errors.now in
     let shown = g.E.Write.contents c.answer_each-ended.new.errors in
-    subst (λ (l : Limits). Shows c.args.has_signs c.args.help.now l input told shown) (ap (λ (p : Prompt). p.limits) c.new-prompt.ensures)
+    subst (λ (l : Limits). Shows c.args.setting.now.has_signs c.args.setting.now.help.now l input told shown) (ap (λ (p : Prompt). p.limits) c.new-prompt.ensures)
     c.answer_each-ended.ensures.signs
