@@ -204,6 +204,7 @@ fn make_session<'a, B: Allocator>(
         m.left_out.items m.full) }
     ensures refused { IfErr result (IsUnmade false wanted.lines wanted.lenient forms.Session limits input.now) }
 {
+    // form: `wanted.lines` is for the contract alone
     let (mut bench, left_out) = import_bench(heap, alloc, limits, wanted.lenient, input)?;
     let text = session_line(heap, &mut bench);
     let full = is_full(&mut bench);
@@ -229,6 +230,7 @@ fn make_page<'a, B: Allocator>(
         m.left_out.items m.full) }
     ensures refused { IfErr result (IsUnmade false wanted.lines wanted.lenient forms.Page limits input.now) }
 {
+    // form: `wanted.lines` is for the contract alone
     let (shown, left_out) = import_shown(heap, alloc, limits, wanted.lenient, input)?;
     let Shown { mut bench, keys } = shown;
     let page = page_with(&mut bench, alloc, keys.as_str());
@@ -256,6 +258,7 @@ fn make_check<'a, B: Allocator>(
         m.left_out.items m.full) }
     ensures refused { IfErr result (IsUnmade true wanted.lines wanted.lenient wanted.form limits input.now) }
 {
+    // form: `wanted.lines` and `wanted.form` are for the contract alone
     let (found, left_out) = import_check(heap, alloc, limits, wanted.lenient, input)?;
     let Checked { text, differs } = found;
     Ok(Made {
