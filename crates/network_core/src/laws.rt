@@ -70,13 +70,19 @@ pub fn rows_law()
     ensures online { OnlineRowsLaw }
 {}
 
-/// If what matters after each step of the recorded run comes from what matters before the step, the same is true of
-/// each run of the network. Let the recorded run also make no more entries than a node may hold. Then one beginning of
-/// a run serves for another if the same steps are left to take after both and the clusters are alike: for each run with
-/// the other beginning, some run with this one ends in an alike cluster. And a delivery can come at once if it is
-/// accepted, brings nothing that matters, and came less often than it was recorded: some run that goes on with the
-/// delivery ends in an alike cluster. Even without these conditions, a node's next step can come at once if it is
-/// accepted and nothing more is delivered at the node: the cluster at the end is the same.
+/// `passes`: if what matters after each step of the recorded run comes from what matters before the step, the same is
+/// true of each run of the network.
+///
+/// `stands`: let the recorded run also make no more entries than a node may hold. Then one beginning of a run serves
+/// for another if the same steps are left to take after both and the clusters are alike: for each run with the other
+/// beginning, some run with this one ends in an alike cluster.
+///
+/// `idle`: under the same two conditions, a delivery can come at once if it is accepted, brings nothing that matters,
+/// and came less often than it was recorded: for each run that goes on from the beginning, some run that goes on from
+/// it with this delivery ends in an alike cluster.
+///
+/// `alone`: without either of the two conditions, a node's next step can come at once if it is accepted and nothing
+/// more is delivered at the node: the cluster at the end is the same.
 pub fn cone_law()
     ensures passes { ConeLaw }
     ensures stands { StandsLaw }

@@ -200,7 +200,7 @@ fn put_lefts_back<A: Allocator + Copy>(
     Ok(())
 }
 
-/// A copy of `seen`, the delta's dots, without the name's next dots after `clock`, one for each of `lefts`, and without
+/// A copy of `seen`, which has the delta's dots. It lacks the name's dots at the `lefts.len()` clocks after `clock`, and
 /// the dot of each entry that had left, unless the delta had that dot before.
 fn copy_without<A: Allocator + Copy>(
     seen: &DotSet<A>,
