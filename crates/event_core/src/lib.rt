@@ -3,10 +3,10 @@
 //! The crate stands on `bench_core` for calls and replies, on `json_core`, which reads JSON lists place by place, and
 //! on the kit's `serde_json`, whose values take their memory from the global heap. It names the plain types of the
 //! crates below. The modules in reading order: `write_act`, `write_reply` and `write_event`, from a call to its value;
-//! `places`, `read_step`, `read_act`, `read_reply` and `read_event`, from a value to what it says.
+//! `operands`, `read_step`, `read_act`, `read_reply` and `read_event`, from a value to what it says.
 #![tactic(auto)]
 
-mod places;
+mod operands;
 mod read_act;
 mod read_event;
 mod read_reply;

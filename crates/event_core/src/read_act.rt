@@ -5,7 +5,7 @@ ghost use Rattle.bench_core.specs.Acts.{plain_act};
 ghost use Rattle.json_core.specs.Decoded.{Gives};
 ghost use Rattle.event_core.specs.Decoding.{undo_at, back_at, act_at};
 
-use crate::places::node_in;
+use crate::operands::node_in;
 use crate::read_step::step_at;
 use bench_core::Act;
 use json_core::{Unread, ends_at, number_in, text_in};

@@ -4,7 +4,7 @@ ghost use Rattle.serde_json.specs.View.{view};
 ghost use Rattle.json_core.specs.Decoded.{Gives};
 ghost use Rattle.event_core.specs.Decoding.{event_at};
 
-use crate::places::node_in;
+use crate::operands::node_in;
 use crate::read_act::act_at;
 use crate::read_reply::reply_at;
 use bench_core::Event;

@@ -8,7 +8,7 @@ ghost use Rattle.event_core.specs.Decoding.{presence_at, leave_at, leave_all_at,
 ghost use Rattle.event_core.specs.Decoding.{status_at, message_at, tracking_at, step_at};
 ghost use Rattle.std.specs.FinSet as set;
 
-use crate::places::{node_in, word_in};
+use crate::operands::{node_in, word_in};
 use bench_core::Step;
 use dots_core::{MOST_NAMES, NameSet};
 use json_core::{Unread, ends_at, number_in, text_in};

@@ -2,14 +2,14 @@
 //!
 //! Stands on three crates of the kit: `json`, whose reader gives a text's tokens; `serde_json`, whose values take their
 //! memory from the global heap; and `fast_float`, which reads a whole number in place. The modules in reading order:
-//! `unread`, why a value can't be read; `one_value`, the next value of a reader; `places`, what stands at a place of a
+//! `unread`, why a value can't be read; `one_value`, the next value of a reader; `items`, what stands at a place of a
 //! list.
 #![tactic(auto)]
 
+mod items;
 mod one_value;
-mod places;
 mod unread;
 
+pub use items::{ends_at, number_in, text_in};
 pub use one_value::{value_from, value_of};
-pub use places::{ends_at, number_in, text_in};
 pub use unread::Unread;
