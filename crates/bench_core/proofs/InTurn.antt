@@ -10,7 +10,7 @@ use Rattle.bench_core.specs.declared.fault.Fault.{Fault}
 use Rattle.bench_core.specs.declared.fault.Fault.TheVariants.{UnknownNode, HistoryFull, NoSuchStep, AlreadyUndone}
 use Rattle.bench_core.specs.Limits.{node_limits}
 use Rattle.journal_core.specs.Journals.{Kept, find_number, first_consequence, last_of, without}
-use Rattle.payload_core.specs.Answers.{◌>>=◌}
+use Rattle.payload_core.specs.Results.{◌>>=◌}
 use Rattle.journal_core.specs.Futures.{undo_all, without_all}
 use Rattle.journal_core.proofs.Each.{each_find, finds_all, find_itself}
 use Rattle.journal_core.proofs.InTurn.{taken_back, future_holds}

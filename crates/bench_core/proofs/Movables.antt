@@ -1,7 +1,7 @@
 -- Swaps of what is noted of the steps of a journal are swaps of the steps, and what a call that makes them answers.
 use Rattle.std.proofs.Common.{◌≡◌, ℕ, zero, suc, ◌+◌, ◌==◌, ◌&&◌, not, Bool, true, false, if◌then◌else◌, List, [], ◌∷◌}
 use Rattle.std.proofs.Common.{length, set, slice_get, Option, Some, None, Result, Ok, Err, refl, sym, ap, ◌∙◌, subst, subst₂, arith}
-use Rattle.payload_core.specs.Answers.{◌>>=◌}
+use Rattle.payload_core.specs.Results.{◌>>=◌}
 use Rattle.node_core.specs.Operations.{Operation, delivers}
 use Rattle.journal_core.specs.Journals.{Kept, NumbersRise, source_at, is_number, delivers_from}
 use Rattle.bench_core.specs.declared.movable.Movable.{Movable}

@@ -1,7 +1,7 @@
 -- Want of memory is no reply of the machine, since it is no fault of a step.
 use Rattle.std.proofs.Common.{◌≡◌, ◌≢◌, ℕ, ◌+◌, ◌==◌, ◌||◌, not, nat_lt, Bool, true, false, if◌then◌else◌, List, [], ◌∷◌, length, slice_get, Option, Some, None, Result, Ok, Err, refl, ap}
 use Rattle.std.specs.List.{list_all}
-use Rattle.payload_core.specs.Answers.{◌>>=◌}
+use Rattle.payload_core.specs.Results.{◌>>=◌}
 use Rattle.dots_core.specs.Names.{Names}
 use Rattle.payload_core.specs.Messages.{Message}
 use Rattle.replica_core.specs.declared.replica_fault.ReplicaFault.{ReplicaFault}

@@ -9,7 +9,7 @@ use Rattle.bench_core.specs.declared.fault.Fault.{Fault}
 use Rattle.journal_core.specs.Journals.{Kept, NumbersRise, AreBelow, find_number, first_consequence, last_own, last_of, without, steps_before}
 use Rattle.bench_core.specs.Clusters.{Cluster, opening_of, step}
 use Rattle.bench_core.specs.Runs.{then_runs, runs}
-use Rattle.payload_core.specs.Answers.{◌>>=◌}
+use Rattle.payload_core.specs.Results.{◌>>=◌}
 use Rattle.bench_core.specs.Limits.{node_limits}
 use Rattle.bench_core.specs.Laws.{with_node_of}
 use Rattle.bench_core.specs.Acts.{Action, Do, Undo, Back}

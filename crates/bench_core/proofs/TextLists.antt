@@ -12,7 +12,7 @@ use Rattle.std.proofs.lemmas.Bool.Decides.{nat_tests}
 use Rattle.std.proofs.lemmas.Slice.Eq.{slice_eq-Decides, bytes_eq-Decides}
 use Rattle.bench_core.specs.declared.names_fault.NamesFault.TheVariants.{WrongCount, BadName, Twice, OutOfMemory}
 use Rattle.bench_core.specs.declared.names_fault.NamesFault.{NamesFault}
-use Rattle.payload_core.specs.Answers.{◌>>=◌, GivesUnless}
+use Rattle.payload_core.specs.Results.{◌>>=◌, GivesUnless}
 use Rattle.bench_core.proofs.Answers.{bind_ok}
 use Rattle.bench_core.specs.NameText.{is_name}
 use Rattle.bench_core.specs.NameList.{Texts, with_name, with_names, names_of}

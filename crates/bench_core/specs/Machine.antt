@@ -3,7 +3,7 @@ use Rattle.std.specs.Prelude.{◌≡◌, ℕ, ◌+◌, ◌-◌, ◌==◌, ◌&&�
 use Rattle.std.specs.Prelude.{Option, Some, None, Result, Ok, Err, refl}
 use Rattle.std.specs.Coded.{Coded, code_by, coded×, coded_ℕ, coded_list}
 use Rattle.std.specs.List.{list_all}
-use Rattle.payload_core.specs.Answers.{◌>>=◌}
+use Rattle.payload_core.specs.Results.{◌>>=◌}
 use Rattle.bench_core.specs.declared.reply.Reply.{Reply}
 use Rattle.bench_core.specs.declared.reply.Reply.TheVariants.{Taken, Undone, Refused}
 use Rattle.bench_core.specs.declared.fault.Fault.{Fault}

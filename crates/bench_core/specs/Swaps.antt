@@ -1,7 +1,7 @@
 -- Swaps of adjacent independent steps, and the journals that they lead to (Danos and Krivine; Mazurkiewicz's traces).
 use Rattle.std.specs.Prelude.{◌≡◌, ◌≢◌, ℕ, zero, suc, ◌+◌, ◌==◌, ◌&&◌, not, Bool, true, if◌then◌else◌, List, [], ◌∷◌, ◌++◌, map, slice_get, slice_set}
 use Rattle.std.specs.Prelude.{Option, Some, None, Result, Ok, Err}
-use Rattle.payload_core.specs.Answers.{◌>>=◌}
+use Rattle.payload_core.specs.Results.{◌>>=◌}
 use Rattle.node_core.specs.Operations.{Operation}
 use Rattle.journal_core.specs.Journals.{Kept, delivers_from}
 use Rattle.bench_core.specs.declared.swap_fault.SwapFault.{SwapFault}

@@ -10,11 +10,11 @@ use std::cmp::Ordering;
 pub(crate) trait Member {
     type Step;
 
-    type Answer;
+    type Output;
 
     ghost may_take: { List Self → Self → List Self → Self.Step → ℕ → Type 0 };
 
-    ghost takes: { List Self → Self → List Self → Self.Step → ℕ → Self.Answer → Self → ℕ → Type 0 };
+    ghost takes: { List Self → Self → List Self → Self.Step → ℕ → Self.Output → Self → ℕ → Type 0 };
 
     /// Takes the step, which `meter` may count. `before` has the members at lower places, and `after` those at higher
     /// places, both by rising place.
@@ -24,7 +24,7 @@ pub(crate) trait Member {
         after: &[Self],
         step: &Self::Step,
         meter: &mut Meter,
-    ) -> Self::Answer
+    ) -> Self::Output
         requires { may_take before.now self.old after.now step.now meter.old.count }
         ensures { takes before.now self.old after.now step.now meter.old.count result self.new meter.new.count };
 }
@@ -36,7 +36,7 @@ pub(crate) fn step_at<M: Member>(
     place: usize,
     step: &M::Step,
     meter: &mut Meter,
-) -> M::Answer
+) -> M::Output
     requires there { place < length members.old }
     requires asked { (p : Parted members.old place) → M.may_take p.before p.value p.after step.now meter.old.count }
     ensures { Edits (λ before member after left. M.takes before member after step.now meter.old.count result left meter.new.count) members.old place

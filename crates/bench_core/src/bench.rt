@@ -401,7 +401,7 @@ impl<'a, B: Allocator> Bench<'a, B> {
     /// asked for. Any actor may ask. (Danos and Krivine: what follows from a step goes back before the step does.) If
     /// `why` gives a fault, nothing is done or recorded. If an undo is refused memory, the undos before it stand.
     pub fn unwind(&mut self, actor: u16, number: u64) -> Unwound<&'a B>
-        ensures answer { IsUnwound self.old.state number result }
+        ensures unwound { IsUnwound self.old.state number result }
         ensures undone { AreUndone self.old actor (undone_by result) self.new }
         ensures whole { IsWhole self.old.state number result }
     {

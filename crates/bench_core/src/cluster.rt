@@ -37,12 +37,12 @@ fn message<'x, 'a, B: Allocator>(
 impl<'a, B: Allocator> Member for Node<'a, B> {
     type Step = Step<&'a B>;
 
-    type Answer = Result<Inverse<&'a B>, StepFault>;
+    type Output = Result<Inverse<&'a B>, StepFault>;
 
     ghost may_take = { λ before node after step count. MayStep (before ++ node ∷ after) (plain step) count };
 
-    ghost takes = { λ before node after step count answer left counted.
-        StepsOnce (before ++ node ∷ after) (length before) (plain step) count answer (before ++ left ∷ after) counted };
+    ghost takes = { λ before node after step count output left counted.
+        StepsOnce (before ++ node ∷ after) (length before) (plain step) count output (before ++ left ∷ after) counted };
 
     fn take_beside(
         &mut self,

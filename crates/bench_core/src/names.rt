@@ -2,7 +2,7 @@
 ghost use Rattle.std.specs.Prelude.{◌≡◌, ◌↔◌, ◌⊎◌, ◌<◌, ◌≤◌, Err, Ok, length, map, slice_get, option_copied, IsTrue, IfOk};
 ghost use Rattle.std.specs.List.{list_all};
 ghost use Rattle.dots_core.specs.Names.{most_names};
-ghost use Rattle.payload_core.specs.Answers.{GivesUnless};
+ghost use Rattle.payload_core.specs.Results.{GivesUnless};
 ghost use Rattle.bench_core.specs.NameText.{is_name, is_name_byte};
 ghost use Rattle.bench_core.specs.NameList.{names_of, with_name, with_names, number_in};
 

@@ -34,7 +34,7 @@ pub(crate) fn grown<A: Allocator + Copy>(
     Ok(Some(union))
 }
 
-/// Whether `own` has each of `clocks`. If `clocks` doesn't rise, the answer may be `false` although `own` has them all.
+/// Whether `own` has each of `clocks`. If `clocks` doesn't rise, the result may be `false` although `own` has them all.
 fn has_each<A: Allocator>(own: &Part<A>, clocks: &[u64]) -> bool
     requires { (k : ℕ) → is_among k clocks.now ≡ true → 0 < k }
     ensures { result ≡ true → HasEach own.now clocks.now }

@@ -28,7 +28,7 @@ pub record IsPlaceFrom (d : Dot) (ps : List (Dot × Presence)) (i : ℕ) : Type 
   pub below : (k : ℕ) (p : Dot × Presence) → k < i → slice_get ps k ≡ Some p → IsBelow p.0 d
   pub from : (k : ℕ) (p : Dot × Presence) → i ≤ k → slice_get ps k ≡ Some p → IsFrom d p.0
 
--- the answer of a search, one place further on
+-- the result of a search, one place further on
 abbrev pub one_later : Result ℕ ℕ → Result ℕ ℕ
 one_later (Ok place) = Ok (suc place)
 one_later (Err place) = Err (suc place)

@@ -1,4 +1,4 @@
-pub mod Answers
+pub mod Results
 pub mod EntryLists
 pub mod Holders
 pub mod ListParts

@@ -6,7 +6,7 @@ ghost use Rattle.std.specs.Cmp.Lexicographic.{slice_cmp, nat_list_cmp_total, nat
 ghost use Rattle.std.specs.List.{list_all};
 ghost use Rattle.std.specs.Ordering.{nat_cmp};
 ghost use Rattle.std.specs.Str.{bytes_eq};
-ghost use Rattle.entry_core.specs.Answers.{GivesUnless};
+ghost use Rattle.entry_core.specs.Results.{GivesUnless};
 ghost use Rattle.entry_core.specs.Words.{is_word, is_word_byte, word_of};
 ghost use Rattle.entry_core.specs.Short.{IsShortText};
 ghost use Rattle.entry_core.specs.declared.word.WordFault.TheVariants.{OutOfMemory};

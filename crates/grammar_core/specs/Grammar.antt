@@ -6,7 +6,7 @@ use Rattle.std.specs.Str.{bytes_eq}
 use Rattle.std.specs.FinSet as set
 use Rattle.dots_core.specs.Names.{most_names, Names}
 use Rattle.payload_core.specs.Words.{longest_word}
-use Rattle.payload_core.specs.Answers.{◌>>=◌}
+use Rattle.payload_core.specs.Results.{◌>>=◌}
 use Rattle.payload_core.specs.Presences.{Presence}
 use Rattle.node_core.specs.Operations.{Operation, Join, Leave, LeaveAll, Update, Broadcast, Extract, Deliver, Request, Answer, Up, Down, Permdown}
 use Rattle.bench_core.specs.declared.names_fault.NamesFault.{NamesFault}

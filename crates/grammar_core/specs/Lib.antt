@@ -1,7 +1,7 @@
 pub mod Words
 pub mod Casts
 pub mod Scripts
-pub mod Answers
+pub mod Results
 pub mod Grammar
 pub mod Presences
 pub mod Readings

@@ -1,7 +1,7 @@
 //! Reads a script from its bytes, or finds its first fault.
 ghost use Rattle.std.specs.Prelude.{◌≡◌, ◌<◌, Err, length, map, IfErr, IsTrue};
 ghost use Rattle.std.specs.List.{list_all};
-ghost use Rattle.grammar_core.specs.Answers.{Gives, GivesScript};
+ghost use Rattle.grammar_core.specs.Results.{Gives, GivesScript};
 ghost use Rattle.grammar_core.specs.Grammar.{longest_script, with_words, with_words_by, with_line, script_of};
 ghost use Rattle.grammar_core.specs.Readings.{reading_view};
 ghost use Rattle.grammar_core.specs.Scripts.{plain_script};

@@ -1,7 +1,7 @@
 //! `Script`: a script that was read.
 ghost use Rattle.std.specs.Prelude.{◌≡◌, ◌+◌, length, [], option_map, slice_get};
 ghost use Rattle.bench_core.specs.Acts.{plain_act, calls_of};
-ghost use Rattle.grammar_core.specs.Answers.{GivesScript};
+ghost use Rattle.grammar_core.specs.Results.{GivesScript};
 ghost use Rattle.grammar_core.specs.Grammar.{call_of, with_calls};
 ghost use Rattle.grammar_core.specs.Scripts.{plain_line, plain_lines, plain_script};
 

@@ -3,7 +3,7 @@ ghost use Rattle.std.specs.Prelude.{◌≡◌, ◌<◌, map, IsTrue, IfOk};
 ghost use Rattle.std.specs.List.{list_all};
 ghost use Rattle.dots_core.specs.Names.{most_names};
 ghost use Rattle.node_core.specs.Operations.{plain};
-ghost use Rattle.grammar_core.specs.Answers.{Gives, Meets};
+ghost use Rattle.grammar_core.specs.Results.{Gives, Meets};
 ghost use Rattle.grammar_core.specs.Grammar.{node_at, number_at, word_at, presence_with, presence_of, join_of, update_of, leave_with, leave_of};
 ghost use Rattle.grammar_core.specs.Grammar.{leave_all_of, one_number, one_node, up_of, down_of, permdown_of, broadcast_of, with_node, with_nodes};
 ghost use Rattle.grammar_core.specs.Grammar.{extract_of, message_with, one_message, deliver_of, request_of, answer_of};

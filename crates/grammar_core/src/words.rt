@@ -3,7 +3,7 @@ ghost use Rattle.std.specs.Prelude.{◌≡◌, ◌<◌, [], ◌∷◌, ◌++◌,
 ghost use Rattle.std.specs.List.{list_all, prefix_len};
 ghost use Rattle.std.specs.Char.{is_ascii_digit};
 ghost use Rattle.payload_core.specs.Words.{is_word_byte};
-ghost use Rattle.grammar_core.specs.Answers.{Gives};
+ghost use Rattle.grammar_core.specs.Results.{Gives};
 ghost use Rattle.grammar_core.specs.Grammar.{text_words};
 ghost use Rattle.grammar_core.specs.Words.{begins_word, is_numeral, lines_behind, lines_of, number_of, words_of};
 

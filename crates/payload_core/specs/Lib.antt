@@ -1,4 +1,4 @@
-pub use Rattle.entry_core.specs.Answers
+pub use Rattle.entry_core.specs.Results
 pub use Rattle.entry_core.specs.EntryLists
 pub use Rattle.entry_core.specs.Presences
 pub use Rattle.entry_core.specs.Words

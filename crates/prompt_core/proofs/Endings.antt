@@ -12,7 +12,7 @@ use Rattle.grammar_core.specs.Scripts.{Command, Line}
 use Rattle.grammar_core.specs.Words.{is_text, lines_of, words_of}
 use Rattle.grammar_core.specs.declared.fault.FaultKind.{FaultKind}
 use Rattle.grammar_core.specs.declared.fault.FaultKind.TheVariants.{NotText, TooLong, UnknownWord}
-use Rattle.payload_core.specs.Answers.{◌>>=◌}
+use Rattle.payload_core.specs.Results.{◌>>=◌}
 use Rattle.run_core.specs.Prompts.{Prompt, answered, taken}
 use Rattle.stream_core.proofs.Pieces.{first_stays, piece_more, rest_more, rest_stays}
 use Rattle.std.specs.Io.BufRead.{take_through}

@@ -1,6 +1,6 @@
 -- What is printed at a prompt.
 use Rattle.std.proofs.Common.{◌≡◌, ℕ, ◌+◌, if◌then◌else◌, Bool, true, false, List, [], ◌∷◌, ◌++◌, Option, Some, None, Result, Ok, Err, refl, sym, ap, subst, ◌∙◌, append_assoc, append-nil}
-use Rattle.payload_core.specs.Answers.{◌>>=◌}
+use Rattle.payload_core.specs.Results.{◌>>=◌}
 use Rattle.bench_core.specs.Limits.{Limits}
 use Rattle.bench_core.specs.Machine.{Machine}
 use Rattle.grammar_core.specs.declared.fault.FaultKind.{FaultKind}

@@ -11,7 +11,7 @@ use Rattle.node_core.specs.Inverses.{Inverse, LeadsBack, LeadsSomewhere, change_
 use Rattle.node_core.specs.Laws.{ChangeOfLaw}
 use Rattle.journal_core.specs.Journals.{Kept, find_number, first_consequence, last_of, without}
 use Rattle.journal_core.proofs.InTurn.{find_out}
-use Rattle.payload_core.specs.Answers.{◌>>=◌}
+use Rattle.payload_core.specs.Results.{◌>>=◌}
 use Rattle.bench_core.specs.Acts.{Action, Do, Undo, Back}
 use Rattle.bench_core.specs.Limits.{node_limits}
 use Rattle.bench_core.specs.Clusters.{Cluster, step}

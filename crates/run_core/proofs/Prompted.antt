@@ -2,7 +2,7 @@
 use Rattle.std.proofs.Common.{◌≡◌, ℕ, ◌+◌, ◌==◌, ◌||◌, nat_lt, Bool, true, false, not, if◌then◌else◌, List, [], ◌∷◌, ◌++◌, length}
 use Rattle.std.proofs.Common.{slice_index, codes, Option, Some, None, Result, Ok, Err, refl, sym, ap, ap₂, ◌∙◌, subst, append_assoc, append-nil}
 use Rattle.std.specs.Str.{bytes_eq}
-use Rattle.payload_core.specs.Answers.{◌>>=◌}
+use Rattle.payload_core.specs.Results.{◌>>=◌}
 use Rattle.bench_core.specs.Limits.{Limits}
 use Rattle.bench_core.specs.Machine.{Machine, opening_machine}
 use Rattle.bench_core.specs.NameList.{Texts}

@@ -13,7 +13,7 @@ use Rattle.std.proofs.lemmas.Bool.Decides.{nat_tests}
 use Rattle.dots_core.specs.Names.{Names}
 use Rattle.dots_core.specs.FlagsBack.{contains-insert_name}
 use Rattle.dots_core.proofs.Names.{same_names}
-use Rattle.payload_core.specs.Answers.{◌>>=◌}
+use Rattle.payload_core.specs.Results.{◌>>=◌}
 use Rattle.payload_core.specs.Presences.{Presence}
 use Rattle.node_core.specs.Operations.{Operation, Join, Leave, LeaveAll, Update, Broadcast, Extract, Deliver, Request, Answer, Up, Down, Permdown}
 use Rattle.bench_core.specs.declared.names_fault.NamesFault.{NamesFault}

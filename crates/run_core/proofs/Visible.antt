@@ -11,7 +11,7 @@ use Rattle.std.proofs.lemmas.Fmt.{decimal_is_IsNumeral, length-decimal-le}
 use Rattle.std.proofs.lemmas.Str.Parse.{IsNumeralModel, numerals_by_value}
 use Rattle.std.proofs.lemmas.Bool.Decides.{nat_tests}
 use Rattle.dots_core.specs.Names.{Names}
-use Rattle.payload_core.specs.Answers.{◌>>=◌}
+use Rattle.payload_core.specs.Results.{◌>>=◌}
 use Rattle.payload_core.specs.Words.{is_word_byte}
 use Rattle.bench_core.specs.declared.names_fault.NamesFault.TheVariants.{BadName, Twice}
 use Rattle.bench_core.specs.NameText.{is_name, is_name_byte}

@@ -1,6 +1,6 @@
 //! `Prompt`: takes the lines of a script one by one, each answered before the next is read.
 ghost use Rattle.std.specs.Prelude.{◌≡◌, ◌≢◌, OnOk, IfErr, option_copied, option_map, string_bytes};
-ghost use Rattle.grammar_core.specs.Answers.{Gives};
+ghost use Rattle.grammar_core.specs.Results.{Gives};
 ghost use Rattle.run_core.specs.Prompts.{asked, new_prompt, opened, taken};
 ghost use Rattle.run_core.specs.Report.{commands_of};
 ghost use Rattle.grammar_core.specs.Scripts.{plain_lines};

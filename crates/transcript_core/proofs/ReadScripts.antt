@@ -4,7 +4,7 @@ use Rattle.std.proofs.Common.{get_or, None, Ok, Err, refl, sym, ap, ◌∙◌, a
 use Rattle.std.specs.List.{AllByRecursion}
 use Rattle.std.proofs.lemmas.List.Splits.{slice_split_at}
 use Rattle.std.proofs.lemmas.Bool.Decides.{nat_tests}
-use Rattle.payload_core.specs.Answers.{◌>>=◌}
+use Rattle.payload_core.specs.Results.{◌>>=◌}
 use Rattle.bench_core.specs.Machine.{Event}
 use Rattle.bench_core.specs.NameText.{is_name}
 use Rattle.bench_core.specs.NameList.{Texts}

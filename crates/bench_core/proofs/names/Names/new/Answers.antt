@@ -2,7 +2,7 @@ use Rattle.std.proofs.Common.{◌≡◌, ◌∙◌, ap, sym, subst, map, length,
 use Rattle.std.proofs.lemmas.Grind.{common_steps}
 use Rattle.std.proofs.lemmas.Result.{err_from_is_err_and}
 use Rattle.bench_core.specs.NameList.{with_names}
-use Rattle.payload_core.specs.Answers.{GivesUnless}
+use Rattle.payload_core.specs.Results.{GivesUnless}
 use Rattle.bench_core.specs.declared.names_fault.NamesFault.TheVariants.{OutOfMemory}
 use Rattle.bench_core.proofs.TextLists.{gives_fault, in_range, ok_no_fault, names_of_again, names_of_few, with_names_ok, not_wrong_count}
 use Rattle.bench_core.proofs.names.Names.new.Goals as goal

@@ -1,6 +1,6 @@
--- What a reader of scripts answers, compared with what it should: a value, or the first fault.
+-- What a reader of scripts gives, compared with what it is to give: a value, or the first fault.
 use Rattle.std.specs.Prelude.{◌≡◌, Result, Ok, Err}
-use Rattle.payload_core.specs.Answers.{GivesUnless}
+use Rattle.payload_core.specs.Results.{GivesUnless}
 use Rattle.grammar_core.specs.declared.fault.FaultKind.{FaultKind}
 use Rattle.grammar_core.specs.declared.fault.FaultKind.TheVariants.{OutOfMemory}
 use Rattle.grammar_core.specs.declared.fault.ScriptFault.{ScriptFault}
@@ -9,7 +9,7 @@ use Rattle.grammar_core.specs.declared.fault.ScriptFault.{ScriptFault}
 abbrev pub Gives : {X Y : Type 0} → (X → Y) → Result X FaultKind → Result Y FaultKind → Type 0
 Gives = GivesUnless OutOfMemory
 
--- for a part of a line that asks for no memory: the answer is the one that it should be
+-- for a part of a line that asks for no memory: the result is the one that it is to be
 abbrev pub Meets : {X Y : Type 0} → (X → Y) → Result X FaultKind → Result Y FaultKind → Type 0
 Meets view (Ok x) meant = meant ≡ Ok (view x)
 Meets view (Err kind) meant = meant ≡ Err kind
