@@ -123,8 +123,8 @@ fn prints(rt: &HostRuntime, path: &str) -> io::Result<bool> {
     let script = fs::read(rt, path)?;
     let mut reader = FakeReader::ending(&script);
     let mut output = io::writer(rt);
-    let answer = play(&rt.alloc(), &mut reader, &mut output, Limits::usual());
-    Ok(answer.is_ok())
+    let played = play(&rt.alloc(), &mut reader, &mut output, Limits::usual());
+    Ok(played.is_ok())
 }
 
 /// Prints the report of the script in the file that the first word of the command line names, or runs all cases if

@@ -15,7 +15,7 @@ fault_of_word words.BadWord = faults.NoWord
 fault_of_word words.OutOfMemory = faults.OutOfMemory
 
 -- the text is the explanation at the node of this name
-pub record IsAnswer (m : Machine) (question : Question) (text : List ℕ) : Type 0 where
+pub record IsExplanation (m : Machine) (question : Question) (text : List ℕ) : Type 0 where
   pub node : ℕ
   pub named : number_in m.names question.node.now ≡ Some node
   pub topic : is_word question.topic.now ≡ true

@@ -1,6 +1,6 @@
 //! The explanation for a question in words.
 ghost use Rattle.std.specs.Prelude.{◌≡◌, IfErr, IfOk, string_bytes};
-ghost use Rattle.explain_core.specs.Questions.{IsAnswer, Refuses};
+ghost use Rattle.explain_core.specs.Questions.{IsExplanation, Refuses};
 
 use crate::ask_fault::AskFault;
 use crate::explaining::explain;
@@ -23,7 +23,7 @@ pub fn explain_asked<'a, B: Allocator>(
     alloc: &'a B,
     question: Question<'_>,
 ) -> Result<String<&'a B>, AskFault>
-    ensures answer { IfOk result (λ text. IsAnswer bench.now question.entry (string_bytes text)) }
+    ensures text { IfOk result (λ text. IsExplanation bench.now question.entry (string_bytes text)) }
     ensures refused { IfErr result (Refuses bench.now question.entry) }
 {
     let Some(node) = bench.names().number_of(question.node) else {

@@ -116,9 +116,9 @@ pub fn makings_of<'a, B: Allocator>(
 {
     let mut asked = opened(bench, alloc)?;
     let mut makings = Vec::new(alloc);
-    let answer = put_makings(&mut makings, &mut asked, topic, key, bench.remaining());
+    let put = put_makings(&mut makings, &mut asked, topic, key, bench.remaining());
     // form: drop before exit
     asked.discard();
-    answer?;
+    put?;
     Ok(makings)
 }

@@ -114,10 +114,10 @@ fn follow_all<'a, B: Allocator>(
     ensures { OnOk result (traced.new ≡ map (traced_from (emptied bench.now) bench.now.state.remaining) traced.old) }
 {
     let mut asked = opened(bench, alloc)?;
-    let answer = follow_steps(bench, &mut asked, traced);
+    let followed = follow_steps(bench, &mut asked, traced);
     // form: drop before exit
     asked.discard();
-    answer
+    followed
 }
 
 /// The presences of `makings` in their order, each with the track of its dot over all remaining steps. One walk over

@@ -101,7 +101,7 @@ known_key p q path c known mid later os new counts key left r is went told put =
 pub known_more : (p : Plan) (q : Question) (mid later : List (List ℕ)) (os new : List Outcome) → Went p q os mid new → Knows p q new later → length later ≤ p.most → Went p q os later new
 known_more p q mid later os new went knows few = record { more = went.more; keeps = keeps_key p q new mid later went.keeps knows few }
 
--- what holds of what was answered
+-- what holds of the result
 
 pub if_ok : {X E : Type 0} (r : Result X E) (P Q : X → Type 0) → ((x : X) → P x → Q x) → IfOk r P → IfOk r Q
 if_ok (Ok x) P Q f h = f x h

@@ -23,7 +23,7 @@ use Rattle.network_core.proofs.Settling.{settle_holds}
 use Rattle.network_rules.specs.declared.turn.Rank.{Rank}
 use Rattle.network_rules.specs.declared.turn.Turn.{Turn}
 use Rattle.explore_network.specs.Plans.{cone_of, walk_of, IsPlan, Plan}
-use Rattle.network_rules.specs.Queries.{answer, answers, at_node, in_message, key_of, message_queries, message_query, node_queries, node_query, queries, queries_at_nodes, queries_of_messages, sends_held, sent_queries, AtNode, InMessage, Query}
+use Rattle.network_rules.specs.Queries.{standing_of, standings_of, at_node, in_message, key_of, message_queries, message_query, node_queries, node_query, queries, queries_at_nodes, queries_of_messages, sends_held, sent_queries, AtNode, InMessage, Query}
 use Rattle.explore_network.specs.Questions.{Question}
 use Rattle.network_rules.specs.Tables.{carried, is_wanted, matter, Tables}
 use Rattle.network_rules.specs.Turns.{count_at, delivery_of}
@@ -75,10 +75,10 @@ asks_later : (x : Query) (ys zs : List Query) → Asks x zs → Asks x (ys ++ zs
 asks_later x [] zs a = a
 asks_later x (y ∷ ys) zs a = inr (asks_later x ys zs a)
 
-answered : (c d : Cluster) (qs : List Query) (x : Query) → answers c qs ≡ answers d qs → Asks x qs → answer c x ≡ answer d x
-answered c d [] x same a = absurd a
-answered c d (y ∷ ys) x same (inl is) = let head : answer c y ≡ answer d y = cc in ap (answer c) (sym is) ∙ head ∙ ap (answer d) is
-answered c d (y ∷ ys) x same (inr rest) = answered c d ys x (let tail : answers c ys ≡ answers d ys = cc in tail) rest
+alike_at : (c d : Cluster) (qs : List Query) (x : Query) → standings_of c qs ≡ standings_of d qs → Asks x qs → standing_of c x ≡ standing_of d x
+alike_at c d [] x same a = absurd a
+alike_at c d (y ∷ ys) x same (inl is) = let head : standing_of c y ≡ standing_of d y = cc in ap (standing_of c) (sym is) ∙ head ∙ ap (standing_of d) is
+alike_at c d (y ∷ ys) x same (inr rest) = alike_at c d ys x (let tail : standings_of c ys ≡ standings_of d ys = cc in tail) rest
 
 -- dots that are wanted are asked for, where they matter
 
@@ -230,12 +230,12 @@ module _ (p : Plan) (q : Question) (plan : IsPlan p q) where
     qs : List Query
     qs = queries p.tables p.count p.steps p.ranks counts
 
-    both : SameStart counts cs (answers c (queries p.tables p.count p.steps p.ranks counts)) (answers d (queries p.tables p.count p.steps p.ranks cs))
-    both = same_start counts cs (answers c (queries p.tables p.count p.steps p.ranks counts)) (answers d (queries p.tables p.count p.steps p.ranks cs)) same
+    both : SameStart counts cs (standings_of c (queries p.tables p.count p.steps p.ranks counts)) (standings_of d (queries p.tables p.count p.steps p.ranks cs))
+    both = same_start counts cs (standings_of c (queries p.tables p.count p.steps p.ranks counts)) (standings_of d (queries p.tables p.count p.steps p.ranks cs)) same
         (ap length at.counted ∙ counts_long p.turns w ∙ sym (counts_long p.turns v) ∙ ap length (sym too.counted))
 
-    same_answers : answers c (queries p.tables p.count p.steps p.ranks counts) ≡ answers d (queries p.tables p.count p.steps p.ranks counts)
-    same_answers = both.rest ∙ ap (λ (l : List ℕ). answers d (queries p.tables p.count p.steps p.ranks l)) (sym both.first)
+    same_standings : standings_of c (queries p.tables p.count p.steps p.ranks counts) ≡ standings_of d (queries p.tables p.count p.steps p.ranks counts)
+    same_standings = both.rest ∙ ap (λ (l : List ℕ). standings_of d (queries p.tables p.count p.steps p.ranks l)) (sym both.first)
 
     same_counts : counts_of p.turns w ≡ counts_of p.turns v
     same_counts = sym at.counted ∙ both.first ∙ too.counted
@@ -284,7 +284,7 @@ module _ (p : Plan) (q : Question) (plan : IsPlan p q) where
         let asks = at_node_asked p.tables.dots n (matter p.tables n (count_at counts n)) place.0 (length p.tables.dots) e place.1 (get_low p.tables.dots place.0 e place.1) other
         (ap (λ i. set.contains (matter p.tables n i) e.name) (taken p q plan w counts c at n lt) ∙ named.0) in
         let asked = asks_first (AtNode n e) (queries_at_nodes p.tables counts p.count) (queries_of_messages p.tables p.steps p.ranks counts (length p.steps)) (nodes_asked p.tables counts n p.count (AtNode n e) lt asks) in
-        let one = answered c d (queries p.tables p.count p.steps p.ranks counts) (AtNode n e) same_answers asked in
+        let one = alike_at c d (queries p.tables p.count p.steps p.ranks counts) (AtNode n e) same_standings asked in
         sym (sym (ap (λ o. at_node o e) is) ∙ one ∙ ap (λ o. at_node o e) is_too)
 
     -- in a message
@@ -322,7 +322,7 @@ module _ (p : Plan) (q : Question) (plan : IsPlan p q) where
         let asked = asks_later (InMessage n i e) (queries_at_nodes p.tables counts p.count) (queries_of_messages p.tables p.steps p.ranks counts (length p.steps))
         (messages_asked p.tables p.steps p.ranks counts f.place (length p.steps) (InMessage n i e) (get_low p.steps f.place f.step f.at)
         (subst (Asks (InMessage n i e)) (sym asked_here) asks)) in
-        let one = answered c d (queries p.tables p.count p.steps p.ranks counts) (InMessage n i e) same_answers asked in
+        let one = alike_at c d (queries p.tables p.count p.steps p.ranks counts) (InMessage n i e) same_standings asked in
         sym (sym (ap (λ o. in_message (numbered (outbox_of o) i) e) is ∙ ap (λ o. in_message o e) has) ∙ one ∙ ap (λ o. in_message (numbered (outbox_of o) i) e) is_too ∙ ap (λ o. in_message o e) has_too)
 
     pub same_key : (told : Cluster → Bool) → IsWalk (walk_of p told) → IsSettled (walk_of p told) v → IsSettled (walk_of p told) w

@@ -84,5 +84,5 @@ each_replica (x ∷ xs) (y ∷ ys) e zero = let head : x.replica ≡ y.replica =
 each_replica (x ∷ xs) (y ∷ ys) e (suc n) = each_replica xs ys (let tail : map (λ (x : Node). x.replica) xs ≡ map (λ (x : Node). x.replica) ys = cc in tail) n
 
 -- what decides the same is the same
-pub same_answer : (s t : Shown) (b : Bool) → Decides b (s ≡ t) → same_shown s t ≡ b
-same_answer s t b d = one_answer (same_shown s t) b (same_shown-Decides s t) d
+pub same_decision : (s t : Shown) (b : Bool) → Decides b (s ≡ t) → same_shown s t ≡ b
+same_decision s t b d = one_answer (same_shown s t) b (same_shown-Decides s t) d

@@ -119,10 +119,10 @@ fn dots_of_presences<'a, B: Allocator>(
 {
     let mut cluster = Cluster::new(alloc, count as usize, limits)?;
     let mut dots = Vec::new(alloc);
-    let answer = put_all_asked(&mut dots, &mut cluster, steps, topic, key);
+    let put = put_all_asked(&mut dots, &mut cluster, steps, topic, key);
     // form: drop before exit
     drop(cluster);
-    answer?;
+    put?;
     Ok(dots)
 }
 

@@ -232,10 +232,10 @@ fn explore_plan<'a, B: Allocator, W: Watch<Walked>>(
     };
     let mut walk = begun(&tour, alloc)?;
     let left = plan.steps().len() as u128 + plan.again() as u128;
-    let answer = visit(&tour, &mut walk, &counts, left, watch);
+    let visited = visit(&tour, &mut walk, &counts, left, watch);
     // form: drop before exit
     drop(counts);
-    match answer {
+    match visited {
         Ok(()) => Ok(explored_of(walk)),
         Err(stop) => {
             drop(walk);

@@ -1,4 +1,4 @@
 pub mod Texts
 pub mod Faults
 pub mod Asked
-pub mod Answers
+pub mod Questions

@@ -2,7 +2,7 @@
 ghost use Rattle.std.specs.Prelude.{◌≡◌, ◌≤◌, IfErr, IfOk, length, option_map, string_bytes};
 ghost use Rattle.payload_core.specs.Messages.{numbered};
 ghost use Rattle.explore_network.specs.Questions.{plain, IsThere};
-ghost use Rattle.explore_report.specs.Answers.{AreOutcomes, IsAnswer, IsRun, Refuses, RefusesRun, StopsShort};
+ghost use Rattle.explore_report.specs.Questions.{AreOutcomes, TellsOutcomes, IsRun, Refuses, RefusesRun, StopsShort};
 ghost use Rattle.progress_core.specs.Watches.{Watched};
 
 use crate::question::{Question, asked};
@@ -48,7 +48,7 @@ pub fn explore_asked<'a, B: Allocator, W: Watch<Walked>>(
     question: Question<'_>,
     watch: &mut W,
 ) -> Result<String<&'a B>, ReportFault>
-    ensures answer { IfOk result (λ text. IsAnswer bench.now question.entry (string_bytes text)) }
+    ensures text { IfOk result (λ text. TellsOutcomes bench.now question.entry (string_bytes text)) }
     ensures refused { IfErr result (Refuses bench.now question.entry) }
     ensures watched { Watched W.told watch.old watch.new }
 {

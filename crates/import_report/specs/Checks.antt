@@ -46,7 +46,7 @@ refusal_text names note (Refused fault) = place_text names note ++ codes " no " 
 unfoldable pub unsent_text : Texts → Note → List ℕ
 unsent_text names note = place_text names note ++ codes " no message\n"
 
--- for what an event asks of the bench: whether lists agree, one answer for each list, and the text about it
+-- for what an event asks of the bench: whether lists agree, one result for each list, and the text about it
 abbrev pub IsAskedChecked : Texts → Machine → Note → Asked → List Bool → List ℕ → Type 0
 IsAskedChecked names m note list agreements text = (agrees : Bool) × (agreements ≡ agrees ∷ []) ×
     IsListChecked names note (rows_at m note.logged.node) agrees text
@@ -56,7 +56,7 @@ IsAskedChecked names m note (step operation) agreements text = (agreements ≡ [
 unfoldable pub IsEventChecked : Texts → Playing → Note → List Bool → List ℕ → Type 0
 IsEventChecked names p note agreements text = IsAskedChecked names p.machine note (asked_by p.numbers note.step) agreements text
 
--- for events one after another: whether lists agree, one answer for each list, and the text about them
+-- for events one after another: whether lists agree, one result for each list, and the text about them
 abbrev pub AreChecked : Texts → Playing → List Note → List Bool → List ℕ → Type 0
 AreChecked names p [] agreements text = (agreements ≡ []) × (text ≡ [])
 AreChecked names p (note ∷ notes) agreements text =

@@ -12,7 +12,7 @@ use crate::numbers::{asked, note_sent};
 use bench_core::{Act, Bench, Names, Reply, Step};
 use import_core::Noted;
 use payload_core::Oom;
-use report_core::{answer, name_at, put_act};
+use report_core::{name_at, put_act, reply_of};
 use std::alloc::Allocator;
 
 /// Appends `show NODE`, and a line feed.
@@ -70,7 +70,7 @@ pub fn play<'a, B: Allocator>(
     ensures numbers { OnOk result (numbers.new ≡ numbers_after (after_act bench.old node (plain_act act.now)) numbers.old node sends
         (reply_of bench.old node (plain_act act.now))) }
 {
-    let reply = answer(bench, node, act)?;
+    let reply = reply_of(bench, node, act)?;
     note_sent(bench, numbers, node, sends, reply);
     Ok(reply)
 }

@@ -261,11 +261,11 @@ fn is_made<'a>(
     rt: &impl Abort,
 ) -> bool {
     heap.refuse_only(number);
-    let answer = edits(rt, dots, far, edit);
+    let edited = edits(rt, dots, far, edit);
     let requests = heap.requests();
     heap.refuse_none();
-    holds!(rt, answer.is_ok() == (requests < number));
-    answer.is_ok()
+    holds!(rt, edited.is_ok() == (requests < number));
+    edited.is_ok()
 }
 
 /// A case: the dots of a set, an edit of the set, how many of the edit's requests for memory can be refused, and the

@@ -20,8 +20,8 @@ const NO_NAMES: [(&[&str], NamesFault); 6] = [
 #[test]
 fn names_are_refused_at_their_first_fault(rt: HostRuntime) {
     for (texts, fault) in &NO_NAMES {
-        let answer = Names::new(rt.alloc(), texts).err();
-        holds!(&rt, answer == Some(*fault));
+        let refused = Names::new(rt.alloc(), texts).err();
+        holds!(&rt, refused == Some(*fault));
     }
 }
 

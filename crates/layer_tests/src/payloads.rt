@@ -367,7 +367,7 @@ fn pushes<'a>(
         holds!(rt, outbox.make_room().is_ok());
     }
     heap.refuse_from(1);
-    let answer = match outbox.push(message) {
+    let pushed = match outbox.push(message) {
         Ok(number) => Ok(number),
         Err((given_back, fault)) => {
             holds!(rt, has_clock(given_back, clock));
@@ -375,7 +375,7 @@ fn pushes<'a>(
         }
     };
     heap.refuse_none();
-    answer
+    pushed
 }
 
 /// Fills an empty outbox for two messages: the first is refused memory, then gets room, and so does the second; a third

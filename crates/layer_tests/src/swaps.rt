@@ -35,7 +35,7 @@ b join 8 r dora desk
 a join 1 r alice phone
 a join 2 r carl phone";
 
-/// A case: the scripts of two benches, swaps by place, and what `same_cluster` answers.
+/// A case: the scripts of two benches, swaps by place, and what `same_cluster` gives.
 struct Swaps {
     name: &'static str,
     one: &'static str,
@@ -43,7 +43,7 @@ struct Swaps {
     /// The limits of the other bench.
     limits: [u64; 4],
     places: &'static [u64],
-    answer: Result<(), SwapFault>,
+    outcome: Result<(), SwapFault>,
 }
 
 const SWAPS: &[Swaps] = &[
@@ -53,7 +53,7 @@ const SWAPS: &[Swaps] = &[
         other: BOB_FIRST,
         limits: USUAL,
         places: &[1],
-        answer: Ok(()),
+        outcome: Ok(()),
     },
     Swaps {
         name: "three swaps",
@@ -61,7 +61,7 @@ const SWAPS: &[Swaps] = &[
         other: ONE_AFTER_THE_OTHER,
         limits: USUAL,
         places: &[1, 3, 2],
-        answer: Ok(()),
+        outcome: Ok(()),
     },
     Swaps {
         name: "three swaps, of which the last takes the first back",
@@ -69,7 +69,7 @@ const SWAPS: &[Swaps] = &[
         other: ONE_AFTER_THE_OTHER,
         limits: USUAL,
         places: &[1, 3, 1],
-        answer: Err(SwapFault::OtherSteps),
+        outcome: Err(SwapFault::OtherSteps),
     },
     Swaps {
         name: "no swap of two joins in the other order",
@@ -77,7 +77,7 @@ const SWAPS: &[Swaps] = &[
         other: BOB_FIRST,
         limits: USUAL,
         places: &[],
-        answer: Err(SwapFault::OtherSteps),
+        outcome: Err(SwapFault::OtherSteps),
     },
     Swaps {
         name: "a swap of the last place",
@@ -85,7 +85,7 @@ const SWAPS: &[Swaps] = &[
         other: BOB_FIRST,
         limits: USUAL,
         places: &[2],
-        answer: Err(SwapFault::BadSwap { at: 1 }),
+        outcome: Err(SwapFault::BadSwap { at: 1 }),
     },
     Swaps {
         name: "a swap of place 0, after one that is good",
@@ -93,7 +93,7 @@ const SWAPS: &[Swaps] = &[
         other: ALICE_FIRST,
         limits: USUAL,
         places: &[1, 0],
-        answer: Err(SwapFault::BadSwap { at: 2 }),
+        outcome: Err(SwapFault::BadSwap { at: 2 }),
     },
     Swaps {
         name: "a send and its delivery",
@@ -101,7 +101,7 @@ const SWAPS: &[Swaps] = &[
         other: DELIVERED,
         limits: USUAL,
         places: &[3],
-        answer: Err(SwapFault::BadSwap { at: 1 }),
+        outcome: Err(SwapFault::BadSwap { at: 1 }),
     },
     Swaps {
         name: "one place twice",
@@ -109,7 +109,7 @@ const SWAPS: &[Swaps] = &[
         other: DELIVERED,
         limits: USUAL,
         places: &[1, 1],
-        answer: Ok(()),
+        outcome: Ok(()),
     },
     Swaps {
         name: "two steps of one node, once they are adjacent",
@@ -117,7 +117,7 @@ const SWAPS: &[Swaps] = &[
         other: DELIVERED,
         limits: USUAL,
         places: &[1, 2],
-        answer: Err(SwapFault::BadSwap { at: 2 }),
+        outcome: Err(SwapFault::BadSwap { at: 2 }),
     },
     Swaps {
         name: "fewer steps",
@@ -125,7 +125,7 @@ const SWAPS: &[Swaps] = &[
         other: ALICE_FIRST,
         limits: USUAL,
         places: &[],
-        answer: Err(SwapFault::OtherSteps),
+        outcome: Err(SwapFault::OtherSteps),
     },
     Swaps {
         name: "a swap that leads away",
@@ -133,7 +133,7 @@ const SWAPS: &[Swaps] = &[
         other: ALICE_FIRST,
         limits: USUAL,
         places: &[1],
-        answer: Err(SwapFault::OtherSteps),
+        outcome: Err(SwapFault::OtherSteps),
     },
     Swaps {
         name: "a bench with another limit",
@@ -141,7 +141,7 @@ const SWAPS: &[Swaps] = &[
         other: ALICE_FIRST,
         limits: [100_000, 10_000, 9, 10_000],
         places: &[9],
-        answer: Err(SwapFault::OtherBench),
+        outcome: Err(SwapFault::OtherBench),
     },
     Swaps {
         name: "a bench with other names",
@@ -149,13 +149,13 @@ const SWAPS: &[Swaps] = &[
         other: "nodes a c",
         limits: USUAL,
         places: &[9],
-        answer: Err(SwapFault::OtherBench),
+        outcome: Err(SwapFault::OtherBench),
     },
 ];
 
 /// Asks `same_cluster` with its first, second, .. request for memory refused alone, until no refusal is met. Gives its
-/// answer, and how many requests were refused; `OutOfMemory` and 9 if each of the first 9 was.
-fn answer_of<'a>(
+/// outcome, and how many requests were refused; `OutOfMemory` and 9 if each of the first 9 was.
+fn outcome_of<'a>(
     one: &Bench<'a, Heap>,
     other: &mut Bench<'a, Heap>,
     places: &[u64],
@@ -163,10 +163,10 @@ fn answer_of<'a>(
 ) -> (Result<(), SwapFault>, u64) {
     for number in 1..10 {
         heap.refuse_only(number);
-        let answer = same_cluster(one, other, places);
-        if answer != Err(SwapFault::OutOfMemory) {
+        let outcome = same_cluster(one, other, places);
+        if outcome != Err(SwapFault::OutOfMemory) {
             heap.refuse_none();
-            return (answer, number - 1);
+            return (outcome, number - 1);
         }
     }
     (Err(SwapFault::OutOfMemory), 9)
@@ -177,10 +177,10 @@ fn answer_of<'a>(
 fn compare<'a>(one: &mut Bench<'a, Heap>, swaps: &Swaps, heap: &'a Heap, rt: &impl Abort) {
     let limits = limits_of(swaps.limits, rt);
     let mut other = played(swaps.other, limits, heap, rt);
-    let (answer, refused) = answer_of(one, &mut other, swaps.places, heap);
+    let (outcome, refused) = outcome_of(one, &mut other, swaps.places, heap);
     drop(other);
-    let is_other = swaps.answer == Err(SwapFault::OtherBench);
-    holds(rt, answer == swaps.answer, swaps.name);
+    let is_other = swaps.outcome == Err(SwapFault::OtherBench);
+    holds(rt, outcome == swaps.outcome, swaps.name);
     holds(rt, (refused == 0) == is_other, swaps.name);
 }
 

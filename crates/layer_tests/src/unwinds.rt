@@ -19,7 +19,7 @@ b join 9 r bob desk
 const FUTURE: [u64; 4] = [5, 4, 3, 1];
 
 /// How many of these steps are reported as undone, and whether all are; 0 if the unwind was refused memory at once, and
-/// `None` for any other answer.
+/// `None` for any other outcome.
 fn told<'a>(unwound: &Unwound<&'a Heap>, steps: &[u64]) -> Option<(usize, bool)> {
     match unwound {
         Unwound::Done(numbers) if numbers.as_slice() == steps => Some((numbers.len(), true)),
@@ -32,9 +32,9 @@ fn told<'a>(unwound: &Unwound<&'a Heap>, steps: &[u64]) -> Option<(usize, bool)>
 /// Unwinds step 1, whose future is `steps`. Gives how many were undone, and whether all were.
 fn unwinds<'a>(bench: &mut Bench<'a, Heap>, steps: &[u64], rt: &impl Abort) -> (usize, bool) {
     let unwound = bench.unwind(2, 1);
-    let answer = told(&unwound, steps);
+    let undone = told(&unwound, steps);
     drop(unwound);
-    answer.expect(rt, "undos")
+    undone.expect(rt, "undos")
 }
 
 /// Undoes these steps one by one; each undo must be made.
@@ -72,9 +72,9 @@ fn goes_on<'a>(pair: &mut Pair<'a>, number: u64, heap: &'a Heap, rt: &impl Abort
 /// Like `goes_on`, but on two new benches.
 fn undone_first<'a>(number: u64, heap: &'a Heap, rt: &impl Abort) -> (usize, bool) {
     let mut pair = played_twice(SCRIPT, Limits::usual(), heap, rt);
-    let answer = goes_on(&mut pair, number, heap, rt);
+    let undone = goes_on(&mut pair, number, heap, rt);
     drop(pair);
-    answer
+    undone
 }
 
 #[test]

@@ -29,12 +29,12 @@ in_message None d = 3
 in_message (Some m) d = standing (store_of m) d
 
 -- how the dot of a query stands in a cluster
-abbrev pub answer : Cluster → Query → ℕ
-answer c (AtNode n d) = at_node (slice_get c n) d
-answer c (InMessage n i d) = in_message (message_at c (Some (n, i))) d
+abbrev pub standing_of : Cluster → Query → ℕ
+standing_of c (AtNode n d) = at_node (slice_get c n) d
+standing_of c (InMessage n i d) = in_message (message_at c (Some (n, i))) d
 
-abbrev pub answers : Cluster → List Query → List ℕ
-answers c qs = map (answer c) qs
+abbrev pub standings_of : Cluster → List Query → List ℕ
+standings_of c qs = map (standing_of c) qs
 
 -- asks how a dot stands at node n, if its name is among these and isn't n
 abbrev pub node_query : ℕ → Names → Option Dot → List Query
@@ -84,4 +84,4 @@ queries t count steps ranks cs = queries_at_nodes t cs count ++ queries_of_messa
 
 -- the key of a state: how many steps of each turn came, and how the dots stand that are asked for
 abbrev pub key_of : Tables → ℕ → List Kept → List Rank → List ℕ → Cluster → List ℕ
-key_of t count steps ranks cs c = cs ++ answers c (queries t count steps ranks cs)
+key_of t count steps ranks cs c = cs ++ standings_of c (queries t count steps ranks cs)

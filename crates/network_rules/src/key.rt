@@ -3,7 +3,7 @@ ghost use Rattle.std.specs.Prelude.{◌≡◌, ◌++◌, IfOk, OnOk, Some, lengt
 ghost use Rattle.std.specs.Option.{option_copied};
 ghost use Rattle.node_core.specs.Operations.{plain};
 ghost use Rattle.bench_core.specs.Clusters.{message_at};
-ghost use Rattle.network_rules.specs.Queries.{answer, answers, at_node, in_message, key_of, message_queries, message_query, node_queries, node_query, queries_at_nodes, queries_of_messages, sends_held, sent_queries, AtNode, InMessage};
+ghost use Rattle.network_rules.specs.Queries.{standing_of, standings_of, at_node, in_message, key_of, message_queries, message_query, node_queries, node_query, queries_at_nodes, queries_of_messages, sends_held, sent_queries, AtNode, InMessage};
 ghost use Rattle.network_rules.specs.Tables.{carried, matter};
 ghost use Rattle.network_rules.specs.Standings.{standing_in};
 
@@ -75,7 +75,7 @@ fn put_at_node<'a, B: Allocator>(
     number: u16,
     names: NameSet,
 ) -> Result<(), Oom>
-    ensures { OnOk result (key.new.items ≡ key.old.items ++ answers cluster.now (node_query number names (Some dot))) }
+    ensures { OnOk result (key.new.items ≡ key.old.items ++ standings_of cluster.now (node_query number names (Some dot))) }
 {
     if dot.name != number && names.has(dot.name) {
         key.push(at_node(cluster.node(number), dot))?;
@@ -91,7 +91,7 @@ fn put_node<'a, B: Allocator>(
     number: u16,
     names: NameSet,
 ) -> Result<(), Oom>
-    ensures { OnOk result (key.new.items ≡ key.old.items ++ answers cluster.now (node_queries dots.now number names (length dots.now))) }
+    ensures { OnOk result (key.new.items ≡ key.old.items ++ standings_of cluster.now (node_queries dots.now number names (length dots.now))) }
 {
     for place in 0..dots.len() {
         put_at_node(key, dots[place], cluster, number, names)?;
@@ -108,7 +108,7 @@ fn put_in_message<'a, B: Allocator>(
     number: u64,
     names: NameSet,
 ) -> Result<(), Oom>
-    ensures { OnOk result (key.new.items ≡ key.old.items ++ answers cluster.now (message_query node number names (Some dot))) }
+    ensures { OnOk result (key.new.items ≡ key.old.items ++ standings_of cluster.now (message_query node number names (Some dot))) }
 {
     if names.has(dot.name) {
         key.push(in_message(message_of(cluster, node, number), dot))?;
@@ -125,7 +125,7 @@ fn put_message<'a, B: Allocator>(
     number: u64,
     names: NameSet,
 ) -> Result<(), Oom>
-    ensures { OnOk result (key.new.items ≡ key.old.items ++ answers cluster.now (message_queries dots.now node number names (length dots.now))) }
+    ensures { OnOk result (key.new.items ≡ key.old.items ++ standings_of cluster.now (message_queries dots.now node number names (length dots.now))) }
 {
     for place in 0..dots.len() {
         put_in_message(key, dots[place], cluster, node, number, names)?;
@@ -155,7 +155,7 @@ fn put_nodes<'a, B: Allocator>(
     state: &State<'a, '_, B>,
     count: u16,
 ) -> Result<(), Oom>
-    ensures { OnOk result (key.new.items ≡ key.old.items ++ answers state.now.cluster.now (queries_at_nodes cone.now state.now.counts.now count)) }
+    ensures { OnOk result (key.new.items ≡ key.old.items ++ standings_of state.now.cluster.now (queries_at_nodes cone.now state.now.counts.now count)) }
 {
     for node in 0..count {
         let names = cone.matter(node, count_at(state.counts, node as usize));
@@ -173,7 +173,7 @@ fn put_sent<'a, B: Allocator>(
     kept: &Kept<&'a B>,
     rank: Rank,
 ) -> Result<(), Oom>
-    ensures { OnOk result (key.new.items ≡ key.old.items ++ answers state.now.cluster.now
+    ensures { OnOk result (key.new.items ≡ key.old.items ++ standings_of state.now.cluster.now
         (sent_queries cone.now state.now.counts.now (Some kept.now) (Some rank))) }
 {
     if sends_held(&kept.step) && rank.before < count_at(state.counts, kept.node as usize) {
@@ -198,7 +198,7 @@ fn put_place<'a, B: Allocator>(
     kept: &Kept<&'a B>,
     rank: Option<&Rank>,
 ) -> Result<(), Oom>
-    ensures { OnOk result (key.new.items ≡ key.old.items ++ answers state.now.cluster.now
+    ensures { OnOk result (key.new.items ≡ key.old.items ++ standings_of state.now.cluster.now
         (sent_queries cone.now state.now.counts.now (Some kept.now) (option_map (λ r. r.now) rank.entry))) }
 {
     match rank {
@@ -215,7 +215,7 @@ fn put_messages<'a, B: Allocator>(
     run: &RecordedRun<'a, '_, B>,
     state: &State<'a, '_, B>,
 ) -> Result<(), Oom>
-    ensures { OnOk result (key.new.items ≡ key.old.items ++ answers state.now.cluster.now
+    ensures { OnOk result (key.new.items ≡ key.old.items ++ standings_of state.now.cluster.now
         (queries_of_messages cone.now run.now.steps.now run.now.ranks.now state.now.counts.now (length run.now.steps.now))) }
 {
     let steps = run.steps;

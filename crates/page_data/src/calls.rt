@@ -19,7 +19,7 @@ use crate::steps::put_gives;
 use bench_core::{Act, Bench, Event, Fault, Names, Node, Reply, TextSet};
 use diff_core::{Diff, OnlineRow};
 use payload_core::Oom;
-use report_core::{answer, node, step_diff};
+use report_core::{node, reply_of, step_diff};
 use std::alloc::Allocator;
 use transcript_core::{CastRef, put_call};
 
@@ -226,7 +226,7 @@ fn put_outcome<'a, B: Allocator>(
 {
     // form: hands out what the bench keeps
     bench.bench_law();
-    let reply = answer(bench, actor, act)?;
+    let reply = reply_of(bench, actor, act)?;
     match reply {
         Reply::Taken(number) => {
             let taken = TakenStep { actor, act, number };

@@ -14,8 +14,8 @@ use Rattle.run_core.specs.Report.{played}
 use Rattle.transcript_core.specs.Actors.{free_consoles}
 use Rattle.recording_core.specs.Sessions.{IsSession}
 use Rattle.stream_core.specs.Inputs.{IsFront}
-use Rattle.program_core.specs.declared.fault.Fault.{Fault}
-use Rattle.program_core.specs.declared.fault.Fault.TheVariants as faults
+use Rattle.program_core.specs.declared.fault.ProgramFault.{ProgramFault}
+use Rattle.program_core.specs.declared.fault.ProgramFault.TheVariants as faults
 use Rattle.program_core.specs.declared.inputs.Run.{Run}
 use Rattle.program_core.specs.Program.{IsBenchAt, IsBenchBy, IsRunAt, IsRunBy, RefusesBenchAt, RefusesScript, RefusesSession, is_for_session}
 
@@ -89,7 +89,7 @@ bench_at limits (Some input) m consoles is = by (is_for_session input) is
     by true is = is.0
     by false is = played_on (script_of input) is
 
-refuses_whole : (input bytes : List ℕ) (fault : Fault) → bytes ≡ take 67108865 input → (67108864 < length bytes → fault ≡ faults.LongSession) →
+refuses_whole : (input bytes : List ℕ) (fault : ProgramFault) → bytes ≡ take 67108865 input → (67108864 < length bytes → fault ≡ faults.LongSession) →
     RefusesSession bytes fault → RefusesSession input fault
 refuses_whole input bytes fault front long refuses = go (nat_lt 67108864 (length bytes)) refl
   where
@@ -101,7 +101,7 @@ refuses_whole input bytes fault front long refuses = go (nat_lt 67108864 (length
         let few : length bytes ≤ 67108864 = grind (arith, nat_tests) in
         subst (λ (xs : List ℕ). RefusesSession xs fault) (whole input bytes front few) refuses
 
-refuses_same : (input bytes : List ℕ) (fault : Fault) → script_of bytes ≡ script_of input → RefusesScript bytes fault → RefusesScript input fault
+refuses_same : (input bytes : List ℕ) (fault : ProgramFault) → script_of bytes ≡ script_of input → RefusesScript bytes fault → RefusesScript input fault
 refuses_same input bytes (faults.Script fault) same refuses = sym same ∙ refuses
 refuses_same input bytes faults.ReadFault same refuses = tt
 refuses_same input bytes faults.OutOfMemory same refuses = tt
@@ -120,7 +120,7 @@ refuses_same input bytes (faults.Transcript fault) same refuses = elim refuses [
 refuses_same input bytes (faults.Refused act) same refuses = elim refuses [ ]
 refuses_same input bytes (faults.WriteFault written) same refuses = elim refuses [ ]
 
-module _ (bytes : List ℕ) (fault : Fault) where
+module _ (bytes : List ℕ) (fault : ProgramFault) where
   pub refuses_session : (known : Option (List ℕ)) → IsFront known 67108865 bytes → begins_object bytes ≡ true →
       (67108864 < length bytes → fault ≡ faults.LongSession) → RefusesSession bytes fault → RefusesBenchAt known fault
   refuses_session None front begins long refuses = tt
@@ -135,9 +135,9 @@ module _ (bytes : List ℕ) (fault : Fault) where
       let for_session : is_for_session input ≡ false = for_whole input bytes false front begins in
       (λ no. absurd (cc (for_session, no)), λ _. refuses_same input bytes fault (ap script_of front ∙ same_script input) refuses)
 
--- the same of what is answered
+-- the same of the outcome
 
-pub session_gives : {B : Type 0} (limits : Limits) (bytes : List ℕ) (known : Option (List ℕ)) (r : Result (Run B) Fault) → IsFront known 67108865 bytes →
+pub session_gives : {B : Type 0} (limits : Limits) (bytes : List ℕ) (known : Option (List ℕ)) (r : Result (Run B) ProgramFault) → IsFront known 67108865 bytes →
     begins_object bytes ≡ true → (67108864 < length bytes → r ≡ Err faults.LongSession) →
     IfOk r (λ run. IsSession bytes run.bench × (run.consoles ≡ free_consoles run.bench)) → IfOk r (λ run. IsRunAt limits known run.bench run.consoles)
 session_gives limits bytes known (Err fault) front begins long is = tt
@@ -150,7 +150,7 @@ session_gives limits bytes known (Ok run) front begins long is =
         absurd (cc (long past))
     go false few = grind (arith, nat_tests)
 
-pub session_refuses : {B : Type 0} (bytes : List ℕ) (known : Option (List ℕ)) (r : Result (Run B) Fault) → IsFront known 67108865 bytes →
+pub session_refuses : {B : Type 0} (bytes : List ℕ) (known : Option (List ℕ)) (r : Result (Run B) ProgramFault) → IsFront known 67108865 bytes →
     begins_object bytes ≡ true → (67108864 < length bytes → r ≡ Err faults.LongSession) → IfErr r (RefusesSession bytes) → IfErr r (RefusesBenchAt known)
 session_refuses bytes known (Ok m) front begins long refuses = tt
 session_refuses bytes known (Err fault) front begins long refuses =
@@ -159,18 +159,18 @@ session_refuses bytes known (Err fault) front begins long refuses =
 abbrev IsPlayed : {B : Type 0} → Limits → List ℕ → Run B → Type 0
 IsPlayed limits bytes run = IsOkAnd (script_of bytes) (λ s. (run.bench ≡ played limits s) × (run.consoles ≡ s.cast.consoles))
 
-pub script_gives : {B : Type 0} (limits : Limits) (bytes : List ℕ) (known : Option (List ℕ)) (r : Result (Run B) Fault) → IsFront known 67108865 bytes →
+pub script_gives : {B : Type 0} (limits : Limits) (bytes : List ℕ) (known : Option (List ℕ)) (r : Result (Run B) ProgramFault) → IsFront known 67108865 bytes →
     begins_object bytes ≡ false → IfOk r (IsPlayed limits bytes) → IfOk r (λ run. IsRunAt limits known run.bench run.consoles)
 script_gives limits bytes known (Err fault) front begins is = tt
 script_gives limits bytes known (Ok run) front begins is = gives_played limits bytes known run.bench run.consoles front begins is
 
-pub script_refuses : {B : Type 0} (bytes : List ℕ) (known : Option (List ℕ)) (r : Result (Run B) Fault) → IsFront known 67108865 bytes →
+pub script_refuses : {B : Type 0} (bytes : List ℕ) (known : Option (List ℕ)) (r : Result (Run B) ProgramFault) → IsFront known 67108865 bytes →
     begins_object bytes ≡ false → IfErr r (RefusesScript bytes) → IfErr r (RefusesBenchAt known)
 script_refuses bytes known (Ok m) front begins refuses = tt
 script_refuses bytes known (Err fault) front begins refuses = refuses_script bytes fault known front begins refuses
 
 -- a script that was played was read to its end
-pub script_ends : {B : Type 0} (limits : Limits) (bytes : List ℕ) (r : Result (Run B) Fault) (E : Type 0) → IfOk r (IsPlayed limits bytes) →
+pub script_ends : {B : Type 0} (limits : Limits) (bytes : List ℕ) (r : Result (Run B) ProgramFault) (E : Type 0) → IfOk r (IsPlayed limits bytes) →
     (length bytes < 67108865 → E) → OnOk r E
 script_ends limits bytes (Err fault) E is end = tt
 script_ends limits bytes (Ok run) E is end =

@@ -9,8 +9,8 @@ use Rattle.stream_core.specs.Steps.{Steps}
 use Rattle.import_core.specs.declared.fault.FaultKind.{FaultKind}
 use Rattle.import_core.specs.declared.fault.FaultKind.TheVariants as kinds
 use Rattle.import_core.specs.declared.fault.ImportFault.{ImportFault}
-use Rattle.program_core.specs.declared.fault.Fault.{Fault}
-use Rattle.program_core.specs.declared.fault.Fault.TheVariants as faults
+use Rattle.program_core.specs.declared.fault.ProgramFault.{ProgramFault}
+use Rattle.program_core.specs.declared.fault.ProgramFault.TheVariants as faults
 use Rattle.program_core.specs.Imported.{EndsAsMade, IsMade, IsUnmade, RefusesEvents, RefusesEventsAt, RefusesImport, RefusesImportAt, TellsAll, TellsLines, TellsMade, TellsMissing}
 use Rattle.program_core.specs.Program.{EndsAt, Ends, FailsAs, IsUnwritten, KeepsBefore, TellsMemory, fault_of_import}
 use Rattle.program_core.proofs.Printed.{cause_ends}
@@ -79,7 +79,7 @@ import_unread fault e = read_by fault.line fault.kind e
 -- what was printed
 
 module _ (check lines lenient : Bool) (form : Form) (limits : Limits) (text left_out : List ℕ) (full : Bool) (old new : Option (List ℕ)) where
-  ends_made : (input : List ℕ) (differs : Bool) (r : Result (Unit {0}) Fault) → IsMade check lines lenient form limits input text differs left_out full →
+  ends_made : (input : List ℕ) (differs : Bool) (r : Result (Unit {0}) ProgramFault) → IsMade check lines lenient form limits input text differs left_out full →
       EndsAsMade text differs r old new → Ends (Import check lines lenient) form limits input r old new
   ends_made input differs (Ok u) is e = (text, (left_out, full, subst (λ b. IsMade check lines lenient form limits input text b left_out full) e.0 is), e.1, refl)
   ends_made input differs (Err faults.Differs) is e = (text, (left_out, full, subst (λ b. IsMade check lines lenient form limits input text b left_out full) e.0 is), e.1)
@@ -101,7 +101,7 @@ module _ (check lines lenient : Bool) (form : Form) (limits : Limits) (text left
   ends_made input differs (Err faults.ReadFault) is e = elim e [ ]
   ends_made input differs (Err faults.OutOfMemory) is e = elim e [ ]
 
-  pub ends_import : (known : Option (List ℕ)) (bytes : List ℕ) (differs : Bool) (r : Result (Unit {0}) Fault) → IsWhole known bytes →
+  pub ends_import : (known : Option (List ℕ)) (bytes : List ℕ) (differs : Bool) (r : Result (Unit {0}) ProgramFault) → IsWhole known bytes →
       IsMade check lines lenient form limits bytes text differs left_out full → EndsAsMade text differs r old new →
       EndsAt (Import check lines lenient) form limits known r old new
   ends_import None bytes differs r whole is e = tt
@@ -109,7 +109,7 @@ module _ (check lines lenient : Bool) (form : Form) (limits : Limits) (text left
       ends_made input differs r (subst (λ (b : List ℕ). IsMade check lines lenient form limits b text differs left_out full) whole is) e
 
 module _ (text : List ℕ) (differs : Bool) (old new : Option (List ℕ)) where
-  pub made_before : (r : Result (Unit {0}) Fault) → EndsAsMade text differs r old new → IfErr r (λ fault. KeepsBefore fault old new)
+  pub made_before : (r : Result (Unit {0}) ProgramFault) → EndsAsMade text differs r old new → IfErr r (λ fault. KeepsBefore fault old new)
   made_before (Ok u) e = tt
   made_before (Err faults.Differs) e = tt
   made_before (Err (faults.WriteFault written)) e = tt
@@ -129,7 +129,7 @@ module _ (text : List ℕ) (differs : Bool) (old new : Option (List ℕ)) where
   made_before (Err faults.ReadFault) e = elim e [ ]
   made_before (Err faults.OutOfMemory) e = elim e [ ]
 
-  pub made_memory : (r : Result (Unit {0}) Fault) → EndsAsMade text differs r old new → IfErr r TellsMemory
+  pub made_memory : (r : Result (Unit {0}) ProgramFault) → EndsAsMade text differs r old new → IfErr r TellsMemory
   made_memory (Ok u) e = tt
   made_memory (Err faults.Differs) e = tt
   made_memory (Err (faults.WriteFault written)) e = tt
@@ -149,7 +149,7 @@ module _ (text : List ℕ) (differs : Bool) (old new : Option (List ℕ)) where
   made_memory (Err faults.ReadFault) e = elim e [ ]
   made_memory (Err faults.OutOfMemory) e = elim e [ ]
 
-  pub made_fails : (r : Result (Unit {0}) Fault) (before after : Steps) → EndsAsMade text differs r old new → after.failed ≡ before.failed → FailsAs r before after
+  pub made_fails : (r : Result (Unit {0}) ProgramFault) (before after : Steps) → EndsAsMade text differs r old new → after.failed ≡ before.failed → FailsAs r before after
   made_fails (Ok u) before after e same = same
   made_fails (Err faults.Differs) before after e same = same
   made_fails (Err (faults.WriteFault written)) before after e same = same
@@ -172,17 +172,17 @@ module _ (text : List ℕ) (differs : Bool) (old new : Option (List ℕ)) where
 -- what refuses them
 
 module _ (check lines lenient : Bool) (form : Form) (limits : Limits) where
-  pub refused_ends : (known old : Option (List ℕ)) (fault : Fault) → RefusesImportAt check lines lenient form limits known fault → IsUnwritten fault →
+  pub refused_ends : (known old : Option (List ℕ)) (fault : ProgramFault) → RefusesImportAt check lines lenient form limits known fault → IsUnwritten fault →
       EndsAt (Import check lines lenient) form limits known (Err fault) old old
   refused_ends None old fault cause before = tt
   refused_ends (Some input) old fault cause before = cause_ends (Import check lines lenient) form limits input fault old cause before
 
-  pub refuses_whole : (known : Option (List ℕ)) (bytes : List ℕ) (fault : Fault) → IsWhole known bytes →
+  pub refuses_whole : (known : Option (List ℕ)) (bytes : List ℕ) (fault : ProgramFault) → IsWhole known bytes →
       RefusesImport check lines lenient form limits bytes fault → RefusesImportAt check lines lenient form limits known fault
   refuses_whole None bytes fault whole refuses = tt
   refuses_whole (Some input) bytes fault whole refuses = subst (λ (b : List ℕ). RefusesImport check lines lenient form limits b fault) whole refuses
 
-  events_refuse : (input : List ℕ) (fault : Fault) → RefusesEvents input fault → RefusesImport check lines lenient form limits input fault
+  events_refuse : (input : List ℕ) (fault : ProgramFault) → RefusesEvents input fault → RefusesImport check lines lenient form limits input fault
   events_refuse input faults.LongImport refuses = refuses
   events_refuse input faults.ReadFault refuses = tt
   events_refuse input faults.OutOfMemory refuses = tt
@@ -201,7 +201,7 @@ module _ (check lines lenient : Bool) (form : Form) (limits : Limits) where
   events_refuse input (faults.Prompt fault) refuses = elim refuses [ ]
   events_refuse input (faults.WriteFault written) refuses = elim refuses [ ]
 
-  pub events_refuse_at : (known : Option (List ℕ)) (fault : Fault) → RefusesEventsAt known fault → RefusesImportAt check lines lenient form limits known fault
+  pub events_refuse_at : (known : Option (List ℕ)) (fault : ProgramFault) → RefusesEventsAt known fault → RefusesImportAt check lines lenient form limits known fault
   events_refuse_at None fault refuses = tt
   events_refuse_at (Some input) fault refuses = events_refuse input fault refuses
 

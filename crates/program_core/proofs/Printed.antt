@@ -4,7 +4,7 @@ use Rattle.std.proofs.lemmas.Bool.Decides.{nat_tests}
 use Rattle.std.specs.Io.KnownBytes.{Appends, Keeps}
 use Rattle.bench_core.specs.Limits.{Limits}
 use Rattle.bench_core.specs.Machine.{Machine}
-use Rattle.explain_core.specs.Questions.{IsAnswer, Refuses as RefusesQuestion}
+use Rattle.explain_core.specs.Questions.{IsExplanation, Refuses as RefusesQuestion}
 use Rattle.explain_core.specs.declared.ask_fault.AskFault.{AskFault}
 use Rattle.explain_core.specs.declared.ask_fault.AskFault.TheVariants as asks
 use Rattle.whatif_report.specs.declared.whatif_fault.WhatifFault.{WhatifFault}
@@ -24,14 +24,14 @@ use Rattle.command_line.specs.declared.chosen.Form.{Form}
 use Rattle.command_line.specs.declared.chosen.Form.TheVariants as forms
 use Rattle.command_line.specs.declared.chosen.Subcommand.{Subcommand}
 use Rattle.command_line.specs.declared.chosen.Subcommand.TheVariants.{Race, Explore, Step, Draw, Page, Explain, Whatif}
-use Rattle.program_core.specs.declared.fault.Fault.{Fault}
-use Rattle.program_core.specs.declared.fault.Fault.TheVariants as faults
+use Rattle.program_core.specs.declared.fault.ProgramFault.{ProgramFault}
+use Rattle.program_core.specs.declared.fault.ProgramFault.TheVariants as faults
 use Rattle.grammar_core.specs.declared.fault.ScriptFault.{ScriptFault}
 use Rattle.command_line.specs.declared.chosen.About.{About}
 use Rattle.explore_report.specs.declared.report_fault.ReportFault.{ReportFault}
 use Rattle.explore_report.specs.declared.report_fault.ReportFault.TheVariants as reports
 use Rattle.program_core.specs.Explored.{RefusesExplored, TellsExplored, asked_of, fault_of_explore}
-use Rattle.prompt_core.specs.Ends.{Answers, EndsEarly, ReportLaw, printed}
+use Rattle.prompt_core.specs.Ends.{Responds, EndsEarly, ReportLaw, printed}
 use Rattle.prompt_core.specs.declared.prompt_fault.PromptFault.{PromptFault}
 use Rattle.stream_core.specs.Steps.{Steps}
 use Rattle.command_line.specs.Help.{language}
@@ -46,8 +46,8 @@ unfolding script_of
 too_long None h = tt
 too_long (Some input) h = grind (arith, nat_tests)
 
--- what holds whatever the answer is
-pub always : (r : Result (Unit {0}) Fault) (X : Type 0) → X → OnOk r X
+-- what holds whatever the outcome is
+pub always : (r : Result (Unit {0}) ProgramFault) (X : Type 0) → X → OnOk r X
 always (Ok u) X x = x
 always (Err fault) X x = tt
 
@@ -60,7 +60,7 @@ shown_report forms.Page report bench other = refl
 shown_report forms.Session report bench other = absurd (other refl)
 
 module _ (form : Form) (limits : Limits) (text : List ℕ) (old new : Option (List ℕ)) where
-  ends : (command : Subcommand) (input : List ℕ) (r : Result (Unit {0}) Fault) → Prints command form limits input text → Tells command limits input None →
+  ends : (command : Subcommand) (input : List ℕ) (r : Result (Unit {0}) ProgramFault) → Prints command form limits input text → Tells command limits input None →
       EndsAsText text r old new → Ends command form limits input r old new
   ends command input (Ok u) p none e = (text, p, e, none)
   ends command input (Err (faults.WriteFault written)) p none e = (text, inl p, e.0, e.1)
@@ -81,27 +81,27 @@ module _ (form : Form) (limits : Limits) (text : List ℕ) (old new : Option (Li
   ends command input (Err (faults.Refused act)) p none e = elim e [ ]
   ends command input (Err faults.OutOfMemory) p none e = elim e [ ]
 
-  pub ends_draw : (drawing : Drawing) (known : Option (List ℕ)) (m : Machine) (consoles : Texts) (r : Result (Unit {0}) Fault) → IsRunAt limits known m consoles →
+  pub ends_draw : (drawing : Drawing) (known : Option (List ℕ)) (m : Machine) (consoles : Texts) (r : Result (Unit {0}) ProgramFault) → IsRunAt limits known m consoles →
       IsPicture m consoles (view_of drawing) text → EndsAsText text r old new → EndsAt (Draw drawing) form limits known r old new
   ends_draw drawing None m consoles r k is e = tt
   ends_draw drawing (Some input) m consoles r k is e = ends (Draw drawing) input r (m, consoles, k, is) refl e
 
-  pub ends_page : (known : Option (List ℕ)) (m : Machine) (consoles : Texts) (r : Result (Unit {0}) Fault) → IsRunAt limits known m consoles →
+  pub ends_page : (known : Option (List ℕ)) (m : Machine) (consoles : Texts) (r : Result (Unit {0}) ProgramFault) → IsRunAt limits known m consoles →
       text ≡ page_of m consoles → EndsAsText text r old new → EndsAt Page form limits known r old new
   ends_page None m consoles r k is e = tt
   ends_page (Some input) m consoles r k is e = ends Page input r (m, consoles, k, is) refl e
 
-  pub ends_explain : (question : Question) (known : Option (List ℕ)) (m : Machine) (r : Result (Unit {0}) Fault) → IsBenchAt limits known m →
-      IsAnswer m (question_of question) text → EndsAsText text r old new → EndsAt (Explain question) form limits known r old new
+  pub ends_explain : (question : Question) (known : Option (List ℕ)) (m : Machine) (r : Result (Unit {0}) ProgramFault) → IsBenchAt limits known m →
+      IsExplanation m (question_of question) text → EndsAsText text r old new → EndsAt (Explain question) form limits known r old new
   ends_explain question None m r k told e = tt
   ends_explain question (Some input) m r k told e = ends (Explain question) input r (m, k, told) refl e
 
-  pub ends_whatif : (question : Question) (change : Option ℕ) (known : Option (List ℕ)) (m : Machine) (r : Result (Unit {0}) Fault) → IsBenchAt limits known m →
+  pub ends_whatif : (question : Question) (change : Option ℕ) (known : Option (List ℕ)) (m : Machine) (r : Result (Unit {0}) ProgramFault) → IsBenchAt limits known m →
       TellsWhatif m question change text → EndsAsText text r old new → EndsAt (Whatif question change) form limits known r old new
   ends_whatif question change None m r k told e = tt
   ends_whatif question change (Some input) m r k told e = ends (Whatif question change) input r (m, k, told) refl e
 
-  pub ends_race : (known : Option (List ℕ)) (s : Script) (m : Machine) (r : Result (Unit {0}) Fault) → IsScriptAt known s →
+  pub ends_race : (known : Option (List ℕ)) (s : Script) (m : Machine) (r : Result (Unit {0}) ProgramFault) → IsScriptAt known s →
       IsRaceOf limits s m → text ≡ shown form (history_text m) m → EndsAsText text r old new → EndsAt Race form limits known r old new
   ends_race None s m r k raced is e = tt
   ends_race (Some input) s m r k raced is e =
@@ -109,13 +109,13 @@ module _ (form : Form) (limits : Limits) (text : List ℕ) (old new : Option (Li
       λ o. IsOkAnd o (λ s. (m : Machine) × IsRaceOf limits s m × (text ≡ shown form (history_text m) m)) in
       ends Race input r (subst P (sym k) (m, raced, is)) refl e
 
-  pub ends_explore : (about : About) (lost again states : ℕ) (outcome : Option ℕ) (known : Option (List ℕ)) (m : Machine) (r : Result (Unit {0}) Fault) → IsBenchAt limits known m →
+  pub ends_explore : (about : About) (lost again states : ℕ) (outcome : Option ℕ) (known : Option (List ℕ)) (m : Machine) (r : Result (Unit {0}) ProgramFault) → IsBenchAt limits known m →
       TellsExplored m (asked_of about lost again states) outcome text → EndsAsText text r old new → EndsAt (Explore about lost again states outcome) form limits known r old new
   ends_explore about lost again states outcome None m r k told e = tt
   ends_explore about lost again states outcome (Some input) m r k told e = ends (Explore about lost again states outcome) input r (m, k, told) refl e
 
   -- a text that goes out meets no fault but that of a write
-  pub keeps_before : (r : Result (Unit {0}) Fault) → EndsAsText text r old new → IfErr r (λ fault. KeepsBefore fault old new)
+  pub keeps_before : (r : Result (Unit {0}) ProgramFault) → EndsAsText text r old new → IfErr r (λ fault. KeepsBefore fault old new)
   keeps_before (Ok u) e = tt
   keeps_before (Err (faults.WriteFault written)) e = tt
   keeps_before (Err (faults.Script fault)) e = elim e [ ]
@@ -135,7 +135,7 @@ module _ (form : Form) (limits : Limits) (text : List ℕ) (old new : Option (Li
   keeps_before (Err (faults.Refused act)) e = elim e [ ]
   keeps_before (Err faults.OutOfMemory) e = elim e [ ]
 
-  pub tells_memory : (r : Result (Unit {0}) Fault) → EndsAsText text r old new → IfErr r TellsMemory
+  pub tells_memory : (r : Result (Unit {0}) ProgramFault) → EndsAsText text r old new → IfErr r TellsMemory
   tells_memory (Ok u) e = tt
   tells_memory (Err (faults.WriteFault written)) e = tt
   tells_memory (Err (faults.Script fault)) e = elim e [ ]
@@ -156,7 +156,7 @@ module _ (form : Form) (limits : Limits) (text : List ℕ) (old new : Option (Li
   tells_memory (Err faults.OutOfMemory) e = elim e [ ]
 
   -- nor does a read fail then
-  pub fails_not : (r : Result (Unit {0}) Fault) (before after : Steps) → EndsAsText text r old new → after.failed ≡ before.failed → FailsAs r before after
+  pub fails_not : (r : Result (Unit {0}) ProgramFault) (before after : Steps) → EndsAsText text r old new → after.failed ≡ before.failed → FailsAs r before after
   fails_not (Ok u) before after e same = same
   fails_not (Err (faults.WriteFault written)) before after e same = same
   fails_not (Err (faults.Script fault)) before after e same = elim e [ ]
@@ -183,7 +183,7 @@ keeps_same None = tt
 keeps_same (Some xs) = refl
 
 -- a fault that comes before the writing, and is the input's
-pub cause_ends : (command : Subcommand) (form : Form) (limits : Limits) (input : List ℕ) (fault : Fault) (old : Option (List ℕ)) → IsCauseOf command form limits input fault →
+pub cause_ends : (command : Subcommand) (form : Form) (limits : Limits) (input : List ℕ) (fault : ProgramFault) (old : Option (List ℕ)) → IsCauseOf command form limits input fault →
     IsUnwritten fault → Ends command form limits input (Err fault) old old
 cause_ends command form limits input (faults.Script f) old cause before = (cause, keeps_same old)
 cause_ends command form limits input (faults.Session f) old cause before = (cause, keeps_same old)
@@ -204,28 +204,28 @@ cause_ends command form limits input (faults.Transcript f) old cause before = ab
 cause_ends command form limits input (faults.Refused act) old cause before = absurd before
 
 module _ (form : Form) (limits : Limits) (known old : Option (List ℕ)) where
-  pub refused_explain : (question : Question) (fault : Fault) → RefusesBenchAt known fault → IsUnwritten fault → EndsAt (Explain question) form limits known (Err fault) old old
+  pub refused_explain : (question : Question) (fault : ProgramFault) → RefusesBenchAt known fault → IsUnwritten fault → EndsAt (Explain question) form limits known (Err fault) old old
   refused_explain question fault cause before = go known cause
     where
       go : (known : Option (List ℕ)) → RefusesBenchAt known fault → EndsAt (Explain question) form limits known (Err fault) old old
       go None cause = tt
       go (Some input) cause = cause_ends (Explain question) form limits input fault old (inl cause) before
 
-  pub refused_draw : (drawing : Drawing) (fault : Fault) → RefusesBenchAt known fault → IsUnwritten fault → EndsAt (Draw drawing) form limits known (Err fault) old old
+  pub refused_draw : (drawing : Drawing) (fault : ProgramFault) → RefusesBenchAt known fault → IsUnwritten fault → EndsAt (Draw drawing) form limits known (Err fault) old old
   refused_draw drawing fault cause before = go known cause
     where
       go : (known : Option (List ℕ)) → RefusesBenchAt known fault → EndsAt (Draw drawing) form limits known (Err fault) old old
       go None cause = tt
       go (Some input) cause = cause_ends (Draw drawing) form limits input fault old (inl cause) before
 
-  pub refused_page : (fault : Fault) → RefusesBenchAt known fault → IsUnwritten fault → EndsAt Page form limits known (Err fault) old old
+  pub refused_page : (fault : ProgramFault) → RefusesBenchAt known fault → IsUnwritten fault → EndsAt Page form limits known (Err fault) old old
   refused_page fault cause before = go known cause
     where
       go : (known : Option (List ℕ)) → RefusesBenchAt known fault → EndsAt Page form limits known (Err fault) old old
       go None cause = tt
       go (Some input) cause = cause_ends Page form limits input fault old cause before
 
-  pub refused_whatif : (question : Question) (change : Option ℕ) (fault : Fault) → RefusesBenchAt known fault → IsUnwritten fault →
+  pub refused_whatif : (question : Question) (change : Option ℕ) (fault : ProgramFault) → RefusesBenchAt known fault → IsUnwritten fault →
       EndsAt (Whatif question change) form limits known (Err fault) old old
   refused_whatif question change fault cause before = go known cause
     where
@@ -276,7 +276,7 @@ module _ (form : Form) (limits : Limits) (known old : Option (List ℕ)) where
       go None is = tt
       go (Some input) is = cause input fault is refused
 
-  pub refused_explore : (about : About) (lost again states : ℕ) (outcome : Option ℕ) (fault : Fault) → RefusesBenchAt known fault → IsUnwritten fault →
+  pub refused_explore : (about : About) (lost again states : ℕ) (outcome : Option ℕ) (fault : ProgramFault) → RefusesBenchAt known fault → IsUnwritten fault →
       EndsAt (Explore about lost again states outcome) form limits known (Err fault) old old
   refused_explore about lost again states outcome fault cause before = go known cause
     where
@@ -309,12 +309,12 @@ if_ok_each (Ok s) P each = each s refl
 if_ok_each (Err fault) P each = tt
 
 pub ends_step : ReportLaw → (form : Form) (limits : Limits) (help : List ℕ) → help ≡ language → (known old new : Option (List ℕ)) →
-    Answers help limits known old new → EndsAt Step form limits known (Ok tt) old new
-ends_step law form limits help is None old new answered = tt
-ends_step law form limits help is (Some input) old new answered = (
+    Responds help limits known old new → EndsAt Step form limits known (Ok tt) old new
+ends_step law form limits help is None old new responded = tt
+ends_step law form limits help is (Some input) old new responded = (
   printed language limits input,
   (refl, if_ok_each (script_of input) (λ s. printed language limits input ≡ report_of limits s) (law language limits input)),
-  subst (λ (help : List ℕ). Appends old new (printed help limits input)) is answered,
+  subst (λ (help : List ℕ). Appends old new (printed help limits input)) is responded,
   refl,
 )
 

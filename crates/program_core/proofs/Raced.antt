@@ -7,7 +7,7 @@ use Rattle.bench_core.specs.Machine.{Machine}
 use Rattle.program_core.specs.Program.{fault_of_race}
 use Rattle.bench_core.specs.Limits.{Limits}
 use Rattle.grammar_core.specs.Scripts.{Script}
-use Rattle.program_core.specs.declared.fault.Fault.{Fault}
+use Rattle.program_core.specs.declared.fault.ProgramFault.{ProgramFault}
 use Rattle.program_core.specs.Races.{RefusesLines, RefusesRaceOf}
 
 -- the fault by which a race ends, as its contract tells of it
@@ -28,7 +28,7 @@ refuses_race limits s races.LogsDisagree h = h
 
 -- the fault of what is left of a race, which refuses the script by what its contract tells
 pub refuses_outcome : {Z : Type 0} (limits : Limits) (s : Script) (o : Option RaceFault) (raced : Result (Machine × Z) (RaceFault × Machine))
-    (result : Result Machine Fault) (b : Machine) → IfOk raced (λ r. result ≡ Ok r.0) → IfErr raced (λ e. result ≡ Err (fault_of_race e.0)) →
+    (result : Result Machine ProgramFault) (b : Machine) → IfOk raced (λ r. result ≡ Ok r.0) → IfErr raced (λ e. result ≡ Err (fault_of_race e.0)) →
     MatchOption o (IfErr raced (λ e. IsLate e.0)) (λ early. raced ≡ Err (early, b)) →
     ((f : RaceFault) → MatchOption o (IsLate f) (λ early. f ≡ early) → RefusesLines limits s f) → IfErr result (RefusesRaceOf limits s)
 refuses_outcome limits s o (Ok r) result b ok err m lines = subst (λ x. IfErr x (RefusesRaceOf limits s)) (sym ok) tt

@@ -14,8 +14,8 @@ use Rattle.prompt_core.specs.declared.prompt_fault.PromptFault.TheVariants as pr
 use Rattle.receipt_core.specs.declared.race_fault.RaceFault.TheVariants as races
 use Rattle.transcript_core.specs.declared.fault.TranscriptFault.TheVariants as transcripts
 use Rattle.whatif_report.specs.declared.whatif_fault.WhatifFault.TheVariants as whatifs
-use Rattle.program_core.specs.declared.fault.Fault.{Fault}
-use Rattle.program_core.specs.declared.fault.Fault.TheVariants as faults
+use Rattle.program_core.specs.declared.fault.ProgramFault.{ProgramFault}
+use Rattle.program_core.specs.declared.fault.ProgramFault.TheVariants as faults
 use Rattle.program_core.specs.declared.fault.Refused.{Refused}
 use Rattle.program_core.specs.Program.{Announces, EndsAt, IsEarly, IsEnd, IsFine, TellsAsChosen, TellsAside, TellsBehind, TellsBeside, TellsInput, TellsOn, TellsWhole, status_of}
 
@@ -61,18 +61,18 @@ beside true limits (Whatif question change) form input old middle new announced 
 -- what is told behind the line that announces
 
 pub behind : (terminal : Bool) (limits : Limits) (command : Subcommand) (form : Form) (input old middle new : Option (List ℕ)) (lost : Bool)
-    (answer : Result (Unit {0}) Fault) → Announces terminal command old middle → (IsEarly answer ⊎ TellsWhole command form limits input lost middle new) →
-    IsEarly answer ⊎ TellsBehind terminal limits command form input lost old new
-behind terminal limits command form input old middle new lost answer announced (inl early) = inl early
-behind terminal limits command form input old middle new lost answer announced (inr told) = inr (middle, announced, told)
+    (outcome : Result (Unit {0}) ProgramFault) → Announces terminal command old middle → (IsEarly outcome ⊎ TellsWhole command form limits input lost middle new) →
+    IsEarly outcome ⊎ TellsBehind terminal limits command form input lost old new
+behind terminal limits command form input old middle new lost outcome announced (inl early) = inl early
+behind terminal limits command form input old middle new lost outcome announced (inr told) = inr (middle, announced, told)
 
 -- a status that isn't of an end
 not_end : (status : ℕ) → status ≢ 0 → status ≢ 6 → IsEnd status → ⊥
 not_end status some other (inl is) = some is
 not_end status some other (inr is) = other is
 
--- an answer with the status of an end came late
-pub ends_late : (answer : Result (Unit {0}) Fault) → IsEnd (status_of answer) → IsEarly answer → ⊥
+-- an outcome with the status of an end came late
+pub ends_late : (outcome : Result (Unit {0}) ProgramFault) → IsEnd (status_of outcome) → IsEarly outcome → ⊥
 ends_late (Ok u) end early = early
 ends_late (Err (faults.Script fault)) end early = not_end 1 (λ is. omega arith) (λ is. omega arith) end
 ends_late (Err (faults.Session fault)) end early = not_end 1 (λ is. omega arith) (λ is. omega arith) end
@@ -114,12 +114,12 @@ ends_late (Err faults.ReadFault) end early = not_end 3 (λ is. omega arith) (λ 
 ends_late (Err (faults.WriteFault written)) end early = early
 ends_late (Err faults.OutOfMemory) end early = not_end 4 (λ is. omega arith) (λ is. omega arith) end
 
-pub end_told : {X : Type 0} (answer : Result (Unit {0}) Fault) → IsEnd (status_of answer) → (IsEarly answer ⊎ X) → X
-end_told answer end (inl early) = absurd (ends_late answer end early)
-end_told answer end (inr told) = told
+pub end_told : {X : Type 0} (outcome : Result (Unit {0}) ProgramFault) → IsEnd (status_of outcome) → (IsEarly outcome ⊎ X) → X
+end_told outcome end (inl early) = absurd (ends_late outcome end early)
+end_told outcome end (inr told) = told
 
--- an answer with the status of an end is fine, or an act was refused
-ended : (answer : Result (Unit {0}) Fault) → IsEnd (status_of answer) → IsFine answer ⊎ ((act : Refused) × (answer ≡ Err (faults.Refused act)))
+-- an outcome with the status of an end is fine, or an act was refused
+ended : (outcome : Result (Unit {0}) ProgramFault) → IsEnd (status_of outcome) → IsFine outcome ⊎ ((act : Refused) × (outcome ≡ Err (faults.Refused act)))
 ended (Ok u) end = inl tt
 ended (Err (faults.Script fault)) end = absurd (not_end 1 (λ is. omega arith) (λ is. omega arith) end)
 ended (Err (faults.Session fault)) end = absurd (not_end 1 (λ is. omega arith) (λ is. omega arith) end)
@@ -161,8 +161,8 @@ ended (Err faults.ReadFault) end = absurd (not_end 3 (λ is. omega arith) (λ is
 ended (Err (faults.WriteFault written)) end = absurd (not_end 3 (λ is. omega arith) (λ is. omega arith) end)
 ended (Err faults.OutOfMemory) end = absurd (not_end 4 (λ is. omega arith) (λ is. omega arith) end)
 
--- an answer with status 0 is fine
-pub zero_fine : (answer : Result (Unit {0}) Fault) → status_of answer ≡ 0 → IsFine answer
+-- an outcome with status 0 is fine
+pub zero_fine : (outcome : Result (Unit {0}) ProgramFault) → status_of outcome ≡ 0 → IsFine outcome
 zero_fine (Ok u) zero = tt
 zero_fine (Err (faults.Script fault)) zero = absurd (omega arith)
 zero_fine (Err (faults.Session fault)) zero = absurd (omega arith)
@@ -230,19 +230,19 @@ never_refuses terminal limits command form input old middle new lost act before 
 
 -- what was told at an end, if nothing is told of it behind that
 pub told_at_end : (terminal : Bool) (limits : Limits) (command : Subcommand) (form : Form) (input old new last : Option (List ℕ)) (lost : Bool)
-    (answer : Result (Unit {0}) Fault) (before after : Option (List ℕ)) → IsEnd (status_of answer) → EndsAt command form limits input answer before after →
-    (IsEarly answer ⊎ TellsBehind terminal limits command form input lost old new) → (IsFine answer → last ≡ new) →
+    (outcome : Result (Unit {0}) ProgramFault) (before after : Option (List ℕ)) → IsEnd (status_of outcome) → EndsAt command form limits input outcome before after →
+    (IsEarly outcome ⊎ TellsBehind terminal limits command form input lost old new) → (IsFine outcome → last ≡ new) →
     TellsBehind terminal limits command form input lost old last
-told_at_end terminal limits command form input old new last lost answer before after end ends told same = by (ended answer end)
+told_at_end terminal limits command form input old new last lost outcome before after end ends told same = by (ended outcome end)
   where
     behind_it : TellsBehind terminal limits command form input lost old new
-    behind_it = end_told answer end told
+    behind_it = end_told outcome end told
 
-    by : IsFine answer ⊎ ((act : Refused) × (answer ≡ Err (faults.Refused act))) → TellsBehind terminal limits command form input lost old last
+    by : IsFine outcome ⊎ ((act : Refused) × (outcome ≡ Err (faults.Refused act))) → TellsBehind terminal limits command form input lost old last
     by (inl fine) = subst (λ (o : Option (List ℕ)). TellsBehind terminal limits command form input lost old o) (sym (same fine)) behind_it
     by (inr refused) =
         never_refuses terminal limits command form input old behind_it.0 last lost refused.0 before after behind_it.1
-        (subst (λ (r : Result (Unit {0}) Fault). EndsAt command form limits input r before after) refused.1 ends)
+        (subst (λ (r : Result (Unit {0}) ProgramFault). EndsAt command form limits input r before after) refused.1 ends)
 
 -- words that choose nothing
 pub refused_told : (terminal : Bool) (limits : Limits) (words : List (List ℕ)) (input : Option (List ℕ)) (lost : Bool) (old new : Option (List ℕ)) (kind : ErrorKind)

@@ -3,14 +3,14 @@ use Rattle.std.specs.Prelude.{ℕ, List, Option, None, Some}
 use Rattle.bench_core.specs.Machine.{Machine}
 use Rattle.command_line.specs.declared.chosen.About.{About as Chosen}
 use Rattle.command_line.specs.declared.chosen.About.TheVariants as chosen
-use Rattle.explore_report.specs.Answers.{IsAnswer, IsRun, Refuses, RefusesRun}
+use Rattle.explore_report.specs.Questions.{TellsOutcomes, IsRun, Refuses, RefusesRun}
 use Rattle.explore_report.specs.declared.question.About.{About}
 use Rattle.explore_report.specs.declared.question.About.TheVariants as abouts
 use Rattle.explore_report.specs.declared.question.Question.{Question}
 use Rattle.explore_report.specs.declared.report_fault.ReportFault.{ReportFault}
 use Rattle.explore_report.specs.declared.report_fault.ReportFault.TheVariants as reports
-use Rattle.program_core.specs.declared.fault.Fault.{Fault}
-use Rattle.program_core.specs.declared.fault.Fault.TheVariants as faults
+use Rattle.program_core.specs.declared.fault.ProgramFault.{ProgramFault}
+use Rattle.program_core.specs.declared.fault.ProgramFault.TheVariants as faults
 
 -- what the chosen exploration is about
 abbrev pub about_of : Chosen → About
@@ -24,7 +24,7 @@ asked_of about lost again states = record { about = about_of about; lost = lost;
 
 -- the text tells the outcomes, or is the run of the outcome with this number
 abbrev pub TellsExplored : Machine → Question → Option ℕ → List ℕ → Type 0
-TellsExplored m question None text = IsAnswer m question text
+TellsExplored m question None text = TellsOutcomes m question text
 TellsExplored m question (Some number) text = IsRun m question number text
 
 -- why there is no text of the outcomes, or no run of the outcome with this number
@@ -32,6 +32,6 @@ abbrev pub RefusesExplored : Machine → Question → Option ℕ → ReportFault
 RefusesExplored m question None fault = Refuses m question fault
 RefusesExplored m question (Some number) fault = RefusesRun m question number fault
 
-abbrev pub fault_of_explore : ReportFault → Fault
+abbrev pub fault_of_explore : ReportFault → ProgramFault
 fault_of_explore reports.OutOfMemory = faults.OutOfMemory
 fault_of_explore fault = faults.Explore fault

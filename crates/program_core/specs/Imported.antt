@@ -13,8 +13,8 @@ use Rattle.import_report.specs.Checks.{IsCheckOf}
 use Rattle.import_report.specs.Scripts.{IsBenchOf, IsImported, IsRefused}
 use Rattle.program_core.specs.Texts.{session_text}
 use Rattle.program_core.specs.Views.{page_with}
-use Rattle.program_core.specs.declared.fault.Fault.{Fault}
-use Rattle.program_core.specs.declared.fault.Fault.TheVariants as faults
+use Rattle.program_core.specs.declared.fault.ProgramFault.{ProgramFault}
+use Rattle.program_core.specs.declared.fault.ProgramFault.TheVariants as faults
 
 -- whether the history of a bench has no place for one more step and its undo
 abbrev pub is_full : Machine → Bool
@@ -39,20 +39,20 @@ PrintsImport check lines lenient form limits input differs text =
 
 -- all of the text went out, and the result says whether the bench and the real nodes part; or, if the writing failed, its first
 -- `written` bytes went out
-abbrev pub EndsAsMade : List ℕ → Bool → Result (Unit {0}) Fault → Option (List ℕ) → Option (List ℕ) → Type 0
+abbrev pub EndsAsMade : List ℕ → Bool → Result (Unit {0}) ProgramFault → Option (List ℕ) → Option (List ℕ) → Type 0
 EndsAsMade text differs (Ok _) old new = (differs ≡ false) × Appends old new text
 EndsAsMade text differs (Err faults.Differs) old new = (differs ≡ true) × Appends old new text
 EndsAsMade text differs (Err (faults.WriteFault written)) old new = (written < length text) × Appends old new (take written text)
 EndsAsMade text differs (Err _) old new = ⊥
 
 -- the input can't be read as events: it is too long
-abbrev pub RefusesEvents : List ℕ → Fault → Type 0
+abbrev pub RefusesEvents : List ℕ → ProgramFault → Type 0
 RefusesEvents input faults.LongImport = 67108864 < length input
 RefusesEvents input faults.ReadFault = ⊤
 RefusesEvents input faults.OutOfMemory = ⊤
 RefusesEvents input fault = ⊥
 
-abbrev pub RefusesEventsAt : Option (List ℕ) → Fault → Type 0
+abbrev pub RefusesEventsAt : Option (List ℕ) → ProgramFault → Type 0
 RefusesEventsAt None fault = ⊤
 RefusesEventsAt (Some input) fault = RefusesEvents input fault
 
@@ -64,14 +64,14 @@ IsUnmade false lines lenient Page limits input fault = IsImportFault lenient inp
 IsUnmade false lines lenient _ limits input fault = IsRefused lenient lines limits input fault
 
 -- why nothing is printed of the input: it has too many bytes, or nothing is made of its events
-abbrev pub RefusesImport : Bool → Bool → Bool → Form → Limits → List ℕ → Fault → Type 0
+abbrev pub RefusesImport : Bool → Bool → Bool → Form → Limits → List ℕ → ProgramFault → Type 0
 RefusesImport check lines lenient form limits input (faults.Import fault) = IsUnmade check lines lenient form limits input fault
 RefusesImport check lines lenient form limits input faults.LongImport = 67108864 < length input
 RefusesImport check lines lenient form limits input faults.ReadFault = ⊤
 RefusesImport check lines lenient form limits input faults.OutOfMemory = ⊤
 RefusesImport check lines lenient form limits input fault = ⊥
 
-abbrev pub RefusesImportAt : Bool → Bool → Bool → Form → Limits → Option (List ℕ) → Fault → Type 0
+abbrev pub RefusesImportAt : Bool → Bool → Bool → Form → Limits → Option (List ℕ) → ProgramFault → Type 0
 RefusesImportAt check lines lenient form limits None fault = ⊤
 RefusesImportAt check lines lenient form limits (Some input) fault = RefusesImport check lines lenient form limits input fault
 

@@ -4,7 +4,7 @@ use Rattle.std.specs.Io.KnownBytes.{Appends, IsAtEnd, Keeps}
 use Rattle.bench_core.specs.Limits.{Limits}
 use Rattle.bench_core.specs.Machine.{Machine}
 use Rattle.bench_core.specs.NameList.{Texts}
-use Rattle.explain_core.specs.Questions.{IsAnswer, Refuses as RefusesQuestion}
+use Rattle.explain_core.specs.Questions.{IsExplanation, Refuses as RefusesQuestion}
 use Rattle.explain_core.specs.declared.ask_fault.AskFault.{AskFault}
 use Rattle.explain_core.specs.declared.ask_fault.AskFault.TheVariants as asks
 use Rattle.explain_core.specs.declared.asking.Question.{Question}
@@ -52,11 +52,11 @@ use Rattle.command_line.specs.declared.chosen.Form.{Form}
 use Rattle.command_line.specs.declared.chosen.Form.TheVariants.{Script as ScriptForm, Session}
 use Rattle.command_line.specs.declared.chosen.Subcommand.{Subcommand}
 use Rattle.command_line.specs.declared.chosen.Subcommand.TheVariants.{Play, Race, Load, Import, Explore, Step, Draw, Page, Explain, Whatif}
-use Rattle.program_core.specs.declared.fault.Fault.{Fault}
-use Rattle.program_core.specs.declared.fault.Fault.TheVariants as faults
+use Rattle.program_core.specs.declared.fault.ProgramFault.{ProgramFault}
+use Rattle.program_core.specs.declared.fault.ProgramFault.TheVariants as faults
 use Rattle.program_core.specs.declared.fault.Refused.{Refused}
 
-abbrev pub fault_status : Fault → ℕ
+abbrev pub fault_status : ProgramFault → ℕ
 fault_status (faults.Script fault) = 1
 fault_status (faults.Session fault) = 1
 fault_status faults.LongSession = 1
@@ -97,23 +97,23 @@ fault_status faults.ReadFault = 3
 fault_status (faults.WriteFault written) = 3
 fault_status faults.OutOfMemory = 4
 
--- the status of an answer
-abbrev pub status_of : Result (Unit {0}) Fault → ℕ
+-- the status of an outcome
+abbrev pub status_of : Result (Unit {0}) ProgramFault → ℕ
 status_of (Ok _) = 0
 status_of (Err fault) = fault_status fault
 
-abbrev pub fault_of_race : RaceFault → Fault
+abbrev pub fault_of_race : RaceFault → ProgramFault
 fault_of_race races.OutOfMemory = faults.OutOfMemory
 fault_of_race fault = faults.Race fault
 
-abbrev pub fault_of_ask : AskFault → Fault
+abbrev pub fault_of_ask : AskFault → ProgramFault
 fault_of_ask asks.OutOfMemory = faults.OutOfMemory
 fault_of_ask fault = faults.Explain fault
 
-abbrev pub fault_of_import : ImportFault → Fault
+abbrev pub fault_of_import : ImportFault → ProgramFault
 fault_of_import fault = by fault.kind
   where
-    by : FaultKind → Fault
+    by : FaultKind → ProgramFault
     by imports.OutOfMemory = faults.OutOfMemory
     by kind = faults.Import fault
 
@@ -128,14 +128,14 @@ IsSessionAt None bench = ⊤
 IsSessionAt (Some input) bench = IsSession input bench
 
 -- why no script is read from the input: it has this first fault. `FailsAs` says that a read fault comes if a read failed
-abbrev pub RefusesScript : List ℕ → Fault → Type 0
+abbrev pub RefusesScript : List ℕ → ProgramFault → Type 0
 RefusesScript input (faults.Script fault) = script_of input ≡ Err fault
 RefusesScript input faults.ReadFault = ⊤
 RefusesScript input faults.OutOfMemory = ⊤
 RefusesScript input fault = ⊥
 
 -- why no session is read from the input: it is too long, or it is no session, and the fault says why
-abbrev pub RefusesSession : List ℕ → Fault → Type 0
+abbrev pub RefusesSession : List ℕ → ProgramFault → Type 0
 RefusesSession input (faults.Session fault) = Refuses input fault
 RefusesSession input faults.LongSession = 67108864 < length input
 RefusesSession input faults.ReadFault = ⊤
@@ -166,7 +166,7 @@ abbrev pub IsRunOf : Limits → List ℕ → Machine → Texts → Type 0
 IsRunOf limits input bench consoles = IsRunBy (is_for_session input) limits input bench consoles
 
 -- why the input gives no bench: no session is read from it, if it should be one, and else no script
-abbrev pub RefusesBench : List ℕ → Fault → Type 0
+abbrev pub RefusesBench : List ℕ → ProgramFault → Type 0
 RefusesBench input fault =
     (is_for_session input ≡ true → RefusesSession input fault) × (is_for_session input ≡ false → RefusesScript input fault)
 
@@ -175,29 +175,29 @@ abbrev pub question_of : Chosen → Question
 question_of chosen = record { node = chosen.node; topic = chosen.topic; key = chosen.key }
 
 -- why there is no explanation of the input's bench
-abbrev pub RefusesAsked : Limits → Chosen → List ℕ → Fault → Type 0
+abbrev pub RefusesAsked : Limits → Chosen → List ℕ → ProgramFault → Type 0
 RefusesAsked limits question input (faults.Explain fault) = (m : Machine) × IsBenchOf limits input m × RefusesQuestion m (question_of question) fault
 RefusesAsked limits question input fault = ⊥
 
 -- why there is no picture of the input's bench
-abbrev pub RefusesDrawn : Limits → View → List ℕ → Fault → Type 0
+abbrev pub RefusesDrawn : Limits → View → List ℕ → ProgramFault → Type 0
 RefusesDrawn limits view input (faults.Draw fault) = (m : Machine) × IsBenchOf limits input m × RefusesPicture m view.of fault
 RefusesDrawn limits view input fault = ⊥
 
 -- why there is no text of what would have made a difference on the input's bench
-abbrev pub RefusesChanges : Limits → Chosen → Option ℕ → List ℕ → Fault → Type 0
+abbrev pub RefusesChanges : Limits → Chosen → Option ℕ → List ℕ → ProgramFault → Type 0
 RefusesChanges limits question change input (faults.Whatif fault) = (m : Machine) × IsBenchOf limits input m × RefusesWhatif m question change fault
 RefusesChanges limits question change input fault = ⊥
 
 -- why there is no text of what the network could have done on the input's bench
-abbrev pub RefusesNetwork : Limits → Asked → Option ℕ → List ℕ → Fault → Type 0
+abbrev pub RefusesNetwork : Limits → Asked → Option ℕ → List ℕ → ProgramFault → Type 0
 RefusesNetwork limits question outcome input (faults.Explore fault) =
     (m : Machine) × IsBenchOf limits input m × RefusesExplored m question outcome fault
 RefusesNetwork limits question outcome input fault = ⊥
 
 -- what refuses the input of this command; for a race also that a line is no act line, or that the race is refused; and for a
--- question that there is no answer
-abbrev pub IsCauseOf : Subcommand → Form → Limits → List ℕ → Fault → Type 0
+-- question that there is no text for it
+abbrev pub IsCauseOf : Subcommand → Form → Limits → List ℕ → ProgramFault → Type 0
 IsCauseOf Race form limits input fault = RefusesScript input fault ⊎ IsOkAnd (script_of input) (λ s. RefusesRaceOf limits s fault)
 IsCauseOf (Play strict) form limits input fault = RefusesScript input fault
 IsCauseOf (Load strict) form limits input fault = RefusesSession input fault
@@ -212,11 +212,11 @@ IsCauseOf (Whatif question change) form limits input fault = RefusesBench input 
 
 -- what refuses the input of a command, if the reader's bytes are known
 
-abbrev pub RefusesScriptAt : Option (List ℕ) → Fault → Type 0
+abbrev pub RefusesScriptAt : Option (List ℕ) → ProgramFault → Type 0
 RefusesScriptAt None fault = ⊤
 RefusesScriptAt (Some input) fault = RefusesScript input fault
 
-abbrev pub RefusesSessionAt : Option (List ℕ) → Fault → Type 0
+abbrev pub RefusesSessionAt : Option (List ℕ) → ProgramFault → Type 0
 RefusesSessionAt None fault = ⊤
 RefusesSessionAt (Some input) fault = RefusesSession input fault
 
@@ -228,7 +228,7 @@ abbrev pub IsRunAt : Limits → Option (List ℕ) → Machine → Texts → Type
 IsRunAt limits None bench consoles = ⊤
 IsRunAt limits (Some input) bench consoles = IsRunOf limits input bench consoles
 
-abbrev pub RefusesBenchAt : Option (List ℕ) → Fault → Type 0
+abbrev pub RefusesBenchAt : Option (List ℕ) → ProgramFault → Type 0
 RefusesBenchAt None fault = ⊤
 RefusesBenchAt (Some input) fault = RefusesBench input fault
 
@@ -251,7 +251,7 @@ Prints Step form limits input text =
 Prints (Draw drawing) form limits input text =
     (m : Machine) × (consoles : Texts) × IsRunOf limits input m consoles × IsPicture m consoles (view_of drawing) text
 Prints Page form limits input text = (m : Machine) × (consoles : Texts) × IsRunOf limits input m consoles × (text ≡ page_of m consoles)
-Prints (Explain question) form limits input text = (m : Machine) × IsBenchOf limits input m × IsAnswer m (question_of question) text
+Prints (Explain question) form limits input text = (m : Machine) × IsBenchOf limits input m × IsExplanation m (question_of question) text
 Prints (Whatif question change) form limits input text = (m : Machine) × IsBenchOf limits input m × TellsWhatif m question change text
 
 -- the text says that the bench and the real nodes part
@@ -268,7 +268,7 @@ PrintsApart (Explain question) form limits input text = ⊥
 PrintsApart (Whatif question change) form limits input text = ⊥
 
 -- all of the text went out; or, if the writing failed, its first `written` bytes
-abbrev pub EndsAsText : List ℕ → Result (Unit {0}) Fault → Option (List ℕ) → Option (List ℕ) → Type 0
+abbrev pub EndsAsText : List ℕ → Result (Unit {0}) ProgramFault → Option (List ℕ) → Option (List ℕ) → Type 0
 EndsAsText text (Ok _) old new = Appends old new text
 EndsAsText text (Err (faults.WriteFault written)) old new = (written < length text) × Appends old new (take written text)
 EndsAsText text (Err fault) old new = ⊥
@@ -308,7 +308,7 @@ IsUntold _ form limits input fault = ⊥
 -- what went out, by the result: what is printed for the input; its first bytes, if a write failed; and else nothing, and the
 -- fault is the input's. That an act was refused, and that the bench and the real nodes part, are faults that come after all of
 -- the text
-abbrev pub Ends : Subcommand → Form → Limits → List ℕ → Result (Unit {0}) Fault → Option (List ℕ) → Option (List ℕ) → Type 0
+abbrev pub Ends : Subcommand → Form → Limits → List ℕ → Result (Unit {0}) ProgramFault → Option (List ℕ) → Option (List ℕ) → Type 0
 Ends command form limits input (Ok u) old new = (text : List ℕ) × Prints command form limits input text × Appends old new text × Tells command limits input None
 Ends command form limits input (Err (faults.Refused act)) old new =
     (text : List ℕ) × Prints command form limits input text × Appends old new text × Tells command limits input (Some act)
@@ -321,20 +321,20 @@ Ends command form limits input (Err (faults.Prompt fault)) old new = HasPrompt c
 Ends command form limits input (Err fault) old new = IsCauseOf command form limits input fault × Keeps old new
 
 -- what went out, by the result, if the reader's bytes are known
-abbrev pub EndsAt : Subcommand → Form → Limits → Option (List ℕ) → Result (Unit {0}) Fault → Option (List ℕ) → Option (List ℕ) → Type 0
+abbrev pub EndsAt : Subcommand → Form → Limits → Option (List ℕ) → Result (Unit {0}) ProgramFault → Option (List ℕ) → Option (List ℕ) → Type 0
 EndsAt command form limits None result old new = ⊤
 EndsAt command form limits (Some input) result old new = Ends command form limits input result old new
 
 -- nothing went out for a fault that came before the writing
-abbrev pub KeepsBefore : Fault → Option (List ℕ) → Option (List ℕ) → Type 0
+abbrev pub KeepsBefore : ProgramFault → Option (List ℕ) → Option (List ℕ) → Type 0
 KeepsBefore (faults.WriteFault written) old new = ⊤
 KeepsBefore (faults.Prompt fault) old new = ⊤
 KeepsBefore faults.Differs old new = ⊤
 KeepsBefore (faults.Refused act) old new = ⊤
 KeepsBefore _ old new = Keeps old new
 
--- a prompt that ends early has answered all lines that it took in, except the last
-abbrev pub EndsSoon : Subcommand → Limits → Result (Unit {0}) Fault → Option (List ℕ) → Option (List ℕ) → Option (List ℕ) → Option (List ℕ) → Type 0
+-- a prompt that ends early has responded to all lines that it took in, except the last
+abbrev pub EndsSoon : Subcommand → Limits → Result (Unit {0}) ProgramFault → Option (List ℕ) → Option (List ℕ) → Option (List ℕ) → Option (List ℕ) → Type 0
 EndsSoon Step limits (Err (faults.Prompt fault)) input left old new = EndsEarly language limits fault input left old new
 EndsSoon Step limits result input left old new = ⊤
 EndsSoon (Play strict) limits result input left old new = ⊤
@@ -348,7 +348,7 @@ EndsSoon (Explain question) limits result input left old new = ⊤
 EndsSoon (Whatif question change) limits result input left old new = ⊤
 
 -- the fault is none of a write, of a prompt, of a refused act, of calls that are no script, or of a check
-abbrev pub IsUnwritten : Fault → Type 0
+abbrev pub IsUnwritten : ProgramFault → Type 0
 IsUnwritten (faults.WriteFault written) = ⊥
 IsUnwritten (faults.Prompt fault) = ⊥
 IsUnwritten (faults.Refused act) = ⊥
@@ -357,7 +357,7 @@ IsUnwritten faults.Differs = ⊥
 IsUnwritten _ = ⊤
 
 -- want of memory never comes as a fault of the input
-abbrev pub TellsMemory : Fault → Type 0
+abbrev pub TellsMemory : ProgramFault → Type 0
 TellsMemory (faults.Script fault) = fault.kind ≢ kinds.OutOfMemory
 TellsMemory (faults.Session fault) = fault ≢ sessions.OutOfMemory
 TellsMemory (faults.Race fault) = fault ≢ races.OutOfMemory
@@ -369,7 +369,7 @@ TellsMemory (faults.Transcript fault) = fault ≢ transcripts.OutOfMemory
 TellsMemory _ = ⊤
 
 -- a call of `read` failed if and only if the result is a read fault, and then only one: it wasn't tried again
-abbrev pub FailsAs : {X : Type 0} → Result X Fault → Steps → Steps → Type 0
+abbrev pub FailsAs : {X : Type 0} → Result X ProgramFault → Steps → Steps → Type 0
 FailsAs (Err faults.ReadFault) old new = new.failed ≡ old.failed + 1
 FailsAs (Err (faults.Prompt prompts.ReadFault)) old new = new.failed ≡ old.failed + 1
 FailsAs _ old new = new.failed ≡ old.failed
@@ -387,8 +387,8 @@ TellsAside Page form limits input old new = Keeps old new
 TellsAside (Explain question) form limits input old new = Keeps old new
 TellsAside (Whatif question change) form limits input old new = TellsTried old new
 
--- the answer is a fault that came before anything was printed
-abbrev pub IsEarly : Result (Unit {0}) Fault → Type 0
+-- the outcome is a fault that came before anything was printed
+abbrev pub IsEarly : Result (Unit {0}) ProgramFault → Type 0
 IsEarly (Ok _) = ⊥
 IsEarly (Err fault) = IsUnwritten fault
 
@@ -457,14 +457,14 @@ IsReadBy _ input left = IsAtEnd left
 -- the choice can end on the input like this: with this status, this rest of the input, this output and these reads
 pub record Exits (choice : Choice) (input left : Option (List ℕ)) (limits : Limits) (status : ℕ) (old new : Option (List ℕ)) (before after : Steps)
     : Type 0 where
-  pub answer : Result (Unit {0}) Fault
-  pub status_is : status ≡ status_of answer
-  pub ends : EndsAt choice.command choice.form limits input answer old new
-  pub read : OnOk answer (IsReadBy choice.command input left)
-  pub unwritten : IfErr answer (λ fault. KeepsBefore fault old new)
-  pub memory : IfErr answer TellsMemory
-  pub early : EndsSoon choice.command limits answer input left old new
-  pub failed : FailsAs answer before after
+  pub outcome : Result (Unit {0}) ProgramFault
+  pub status_is : status ≡ status_of outcome
+  pub ends : EndsAt choice.command choice.form limits input outcome old new
+  pub read : OnOk outcome (IsReadBy choice.command input left)
+  pub unwritten : IfErr outcome (λ fault. KeepsBefore fault old new)
+  pub memory : IfErr outcome TellsMemory
+  pub early : EndsSoon choice.command limits outcome input left old new
+  pub failed : FailsAs outcome before after
 
 -- help or the version was printed; or a beginning of it, if a write failed
 abbrev pub PrintsHelp : ℕ → Type 0
@@ -497,8 +497,8 @@ abbrev pub IsQuietOn : Bool → Limits → List (List ℕ) → Option (List ℕ)
 IsQuietOn terminal limits words input old new =
     Keeps old new ⊎ ((choice : Choice) × Chooses words choice × TellsBeside terminal limits choice.command choice.form input old new)
 
--- the answer says that all went well, or that the bench and the real nodes part
-abbrev pub IsFine : Result (Unit {0}) Fault → Type 0
+-- the outcome says that all went well, or that the bench and the real nodes part
+abbrev pub IsFine : Result (Unit {0}) ProgramFault → Type 0
 IsFine (Ok _) = ⊤
 IsFine (Err faults.Differs) = ⊤
 IsFine (Err _) = ⊥

@@ -11,8 +11,8 @@ use Rattle.receipt_core.specs.Agree.{Agrees}
 use Rattle.receipt_core.specs.Races.{IsLate, refusal_of}
 use Rattle.receipt_core.specs.Replies.{AreMachineReplies}
 use Rattle.receipt_core.specs.declared.race_fault.RaceFault.{RaceFault}
-use Rattle.program_core.specs.declared.fault.Fault.{Fault}
-use Rattle.program_core.specs.declared.fault.Fault.TheVariants as faults
+use Rattle.program_core.specs.declared.fault.ProgramFault.{ProgramFault}
+use Rattle.program_core.specs.declared.fault.ProgramFault.TheVariants as faults
 
 -- how many actors there are
 abbrev pub actors_of : Script → ℕ
@@ -36,7 +36,7 @@ RefusesLines limits s fault =
     MatchOption (refusal_of (opening_machine s.cast.nodes limits) (actors_of s) lines) (IsLate fault) (λ early. fault ≡ early)
 
 -- a race of the script has this fault: a line is no act line, or the race of its lines has it
-abbrev pub RefusesRaceOf : Limits → Script → Fault → Type 0
+abbrev pub RefusesRaceOf : Limits → Script → ProgramFault → Type 0
 RefusesRaceOf limits s (faults.Script fault) = with_calls [] s.lines ≡ Err fault
 RefusesRaceOf limits s (faults.Race fault) = RefusesLines limits s fault
 RefusesRaceOf limits s faults.OutOfMemory = ⊤

@@ -16,8 +16,8 @@ use Rattle.transcript_core.specs.declared.fault.TranscriptFault.{TranscriptFault
 use Rattle.transcript_core.specs.declared.fault.TranscriptFault.TheVariants as transcripts
 use Rattle.transcript_core.specs.declared.refusals.Refusal.{Refusal}
 use Rattle.program_core.specs.Texts.{session_text}
-use Rattle.program_core.specs.declared.fault.Fault.{Fault}
-use Rattle.program_core.specs.declared.fault.Fault.TheVariants as faults
+use Rattle.program_core.specs.declared.fault.ProgramFault.{ProgramFault}
+use Rattle.program_core.specs.declared.fault.ProgramFault.TheVariants as faults
 use Rattle.program_core.specs.declared.fault.Refused.{Refused}
 use Rattle.program_core.specs.declared.fault.Refused.TheVariants as refused
 
@@ -63,30 +63,30 @@ ShowsBench strict form m text refused = PrintsBench form m text × (refused ≡ 
 
 -- why nothing is shown: the calls are no script, and one was asked for; or memory was refused
 
-abbrev pub fault_of_transcript : TranscriptFault → Fault
+abbrev pub fault_of_transcript : TranscriptFault → ProgramFault
 fault_of_transcript transcripts.OutOfMemory = faults.OutOfMemory
 fault_of_transcript fault = faults.Transcript fault
 
-abbrev pub IsWant : Fault → Type 0
+abbrev pub IsWant : ProgramFault → Type 0
 IsWant faults.OutOfMemory = ⊤
 IsWant _ = ⊥
 
-abbrev pub RefusesCalls : Machine → Texts → Fault → Type 0
+abbrev pub RefusesCalls : Machine → Texts → ProgramFault → Type 0
 RefusesCalls m consoles (faults.Transcript fault) = Refuses m consoles fault × (fault ≢ transcripts.OutOfMemory)
 RefusesCalls m consoles faults.OutOfMemory = ⊤
 RefusesCalls m consoles _ = ⊥
 
-abbrev pub RefusesPlay : Form → Limits → Script → Fault → Type 0
+abbrev pub RefusesPlay : Form → Limits → Script → ProgramFault → Type 0
 RefusesPlay forms.Script limits s fault = RefusesCalls (played limits s) s.cast.consoles fault
 RefusesPlay _ limits s fault = IsWant fault
 
-abbrev pub RefusesBench : Form → Machine → Fault → Type 0
+abbrev pub RefusesBench : Form → Machine → ProgramFault → Type 0
 RefusesBench forms.Script m fault = RefusesCalls m (free_consoles m) fault
 RefusesBench _ m fault = IsWant fault
 
 -- all of the text went out, and then the refused act ends the program, if there is one; or, if the writing failed, the text's
 -- first `written` bytes went out
-abbrev pub EndsAsShown : List ℕ → Option Refused → Result (Unit {0}) Fault → Option (List ℕ) → Option (List ℕ) → Type 0
+abbrev pub EndsAsShown : List ℕ → Option Refused → Result (Unit {0}) ProgramFault → Option (List ℕ) → Option (List ℕ) → Type 0
 EndsAsShown text refused (Ok _) old new = (refused ≡ None) × Appends old new text
 EndsAsShown text refused (Err (faults.Refused r)) old new = (refused ≡ Some r) × Appends old new text
 EndsAsShown text refused (Err (faults.WriteFault written)) old new = (written < length text) × Appends old new (take written text)

@@ -13,8 +13,8 @@ use Rattle.picture_core.specs.declared.view.Presence.{Presence}
 use Rattle.picture_core.specs.Views.{whole_picture}
 use Rattle.picture_core.specs.declared.view.View.{View}
 use Rattle.transcript_core.specs.Steps.{bench_steps}
-use Rattle.program_core.specs.declared.fault.Fault.{Fault}
-use Rattle.program_core.specs.declared.fault.Fault.TheVariants as faults
+use Rattle.program_core.specs.declared.fault.ProgramFault.{ProgramFault}
+use Rattle.program_core.specs.declared.fault.ProgramFault.TheVariants as faults
 
 -- presences at the node of this name, or at each node if it is `-`
 abbrev pub presence_of : Question → Presence
@@ -29,7 +29,7 @@ presence_of question =
 abbrev pub view_of : Drawing → View
 view_of drawing = record { why = drawing.why; from = drawing.from; to = drawing.to; of = option_map presence_of drawing.online }
 
-abbrev pub fault_of_draw : DrawFault → Fault
+abbrev pub fault_of_draw : DrawFault → ProgramFault
 fault_of_draw draws.OutOfMemory = faults.OutOfMemory
 fault_of_draw fault = faults.Draw fault
 

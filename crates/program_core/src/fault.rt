@@ -1,4 +1,5 @@
-//! `Fault`: why the program ends with another status than 0, which status that is, and what it prints about the fault.
+//! `ProgramFault`: why the program ends with another status than 0, which status that is, and what it prints about the
+//! fault.
 ghost use Rattle.std.specs.Prelude.{◌≡◌};
 ghost use Rattle.program_core.specs.Program.{fault_status};
 
@@ -33,7 +34,7 @@ pub enum Refused {
 /// Why the program ends with another status than 0, once it has read its words. It prints the fault's text on standard
 /// error, behind `presence_bench: `, unless the fault is `Differs`.
 #[derive(Clone, Copy, Debug, PartialEq, Eq, Error)]
-pub enum Fault {
+pub enum ProgramFault {
     /// The first fault of a script. It is never `OutOfMemory`.
     #[error("{0}")]
     Script(ScriptFault),
@@ -64,7 +65,7 @@ pub enum Fault {
     /// Why there is no picture. It is never `OutOfMemory`.
     #[error("draw: {0}")]
     Draw(DrawFault),
-    /// Why there is no answer to what would have made a difference. It is never `OutOfMemory`.
+    /// Why it can't be told what would have made a difference. It is never `OutOfMemory`.
     #[error("whatif: {0}")]
     Whatif(WhatifFault),
     /// Why the calls of a bench can't be written as a script. It is never `OutOfMemory`.
@@ -73,7 +74,7 @@ pub enum Fault {
     /// An act or an unwind was refused in a strict run. The whole text went out.
     #[error("{0}")]
     Refused(Refused),
-    /// A prompt ended early. What it had answered before went out.
+    /// A prompt ended early. Its earlier responses went out.
     #[error("{0}")]
     Prompt(PromptFault),
     /// A read failed.
@@ -87,7 +88,7 @@ pub enum Fault {
     OutOfMemory,
 }
 
-impl Fault {
+impl ProgramFault {
     /// The status with which this fault ends the program. It is 1 if the input or what was asked is refused, 3 if a
     /// stream failed, 4 if memory was refused, and 5 if a worker couldn't be started, or a race can't be vouched for.
     /// It is 6 if a check found a difference, or an act or an unwind was refused in a strict run.
@@ -96,105 +97,105 @@ impl Fault {
     {
         // form: each arm is a case of the proof
         match self {
-            Fault::Script(_) | Fault::Session(_) | Fault::LongSession => 1,
-            Fault::Import(_) | Fault::LongImport => 1,
-            Fault::Differs => 6,
-            Fault::Race(RaceFault::UnknownActor | RaceFault::NoRoom) => 1,
-            Fault::Explore(ReportFault::NoSuchNode | ReportFault::NoWord) => 1,
-            Fault::Explore(ReportFault::TooManyStates { .. } | ReportFault::MayFill) => 1,
-            Fault::Explore(ReportFault::TooManySteps) => 1,
-            Fault::Explore(ReportFault::NoSuchOutcome { .. }) => 1,
-            Fault::Explain(AskFault::NoSuchNode | AskFault::NoWord) => 1,
-            Fault::Draw(DrawFault::NoSuchNode | DrawFault::NoWord) => 1,
-            Fault::Whatif(WhatifFault::NoSuchNode | WhatifFault::NoWord) => 1,
-            Fault::Whatif(WhatifFault::NoSuchChange { .. }) => 1,
-            Fault::Transcript(TranscriptFault::NoScript { .. }) => 1,
-            Fault::Transcript(TranscriptFault::OtherCalls) => 1,
-            Fault::Prompt(PromptFault::TooLong) => 1,
-            Fault::Prompt(PromptFault::ReadFault | PromptFault::WriteFault) => 3,
-            Fault::Prompt(PromptFault::OutOfMemory) => 4,
-            Fault::ReadFault | Fault::WriteFault { .. } => 3,
-            Fault::Race(RaceFault::OutOfMemory) | Fault::OutOfMemory => 4,
-            Fault::Explain(AskFault::OutOfMemory) => 4,
-            Fault::Draw(DrawFault::OutOfMemory) => 4,
-            Fault::Whatif(WhatifFault::OutOfMemory) => 4,
-            Fault::Explore(ReportFault::OutOfMemory) => 4,
-            Fault::Transcript(TranscriptFault::OutOfMemory) => 4,
-            Fault::Race(RaceFault::WorkerRefused | RaceFault::LogsDisagree) => 5,
-            Fault::Refused(_) => 6,
+            ProgramFault::Script(_) | ProgramFault::Session(_) | ProgramFault::LongSession => 1,
+            ProgramFault::Import(_) | ProgramFault::LongImport => 1,
+            ProgramFault::Differs => 6,
+            ProgramFault::Race(RaceFault::UnknownActor | RaceFault::NoRoom) => 1,
+            ProgramFault::Explore(ReportFault::NoSuchNode | ReportFault::NoWord) => 1,
+            ProgramFault::Explore(ReportFault::TooManyStates { .. } | ReportFault::MayFill) => 1,
+            ProgramFault::Explore(ReportFault::TooManySteps) => 1,
+            ProgramFault::Explore(ReportFault::NoSuchOutcome { .. }) => 1,
+            ProgramFault::Explain(AskFault::NoSuchNode | AskFault::NoWord) => 1,
+            ProgramFault::Draw(DrawFault::NoSuchNode | DrawFault::NoWord) => 1,
+            ProgramFault::Whatif(WhatifFault::NoSuchNode | WhatifFault::NoWord) => 1,
+            ProgramFault::Whatif(WhatifFault::NoSuchChange { .. }) => 1,
+            ProgramFault::Transcript(TranscriptFault::NoScript { .. }) => 1,
+            ProgramFault::Transcript(TranscriptFault::OtherCalls) => 1,
+            ProgramFault::Prompt(PromptFault::TooLong) => 1,
+            ProgramFault::Prompt(PromptFault::ReadFault | PromptFault::WriteFault) => 3,
+            ProgramFault::Prompt(PromptFault::OutOfMemory) => 4,
+            ProgramFault::ReadFault | ProgramFault::WriteFault { .. } => 3,
+            ProgramFault::Race(RaceFault::OutOfMemory) | ProgramFault::OutOfMemory => 4,
+            ProgramFault::Explain(AskFault::OutOfMemory) => 4,
+            ProgramFault::Draw(DrawFault::OutOfMemory) => 4,
+            ProgramFault::Whatif(WhatifFault::OutOfMemory) => 4,
+            ProgramFault::Explore(ReportFault::OutOfMemory) => 4,
+            ProgramFault::Transcript(TranscriptFault::OutOfMemory) => 4,
+            ProgramFault::Race(RaceFault::WorkerRefused | RaceFault::LogsDisagree) => 5,
+            ProgramFault::Refused(_) => 6,
         }
     }
 }
 
-impl From<AskFault> for Fault {
+impl From<AskFault> for ProgramFault {
     ghost use Rattle.std.specs.Prelude.{◌≡◌};
     ghost use Rattle.program_core.specs.Program.{fault_of_ask};
 
     ghost from_gives = { λ fault given. given ≡ fault_of_ask fault };
 
-    fn from(fault: AskFault) -> Fault {
+    fn from(fault: AskFault) -> ProgramFault {
         match fault {
-            AskFault::OutOfMemory => Fault::OutOfMemory,
-            AskFault::NoSuchNode | AskFault::NoWord => Fault::Explain(fault),
+            AskFault::OutOfMemory => ProgramFault::OutOfMemory,
+            AskFault::NoSuchNode | AskFault::NoWord => ProgramFault::Explain(fault),
         }
     }
 }
 
-impl From<DrawFault> for Fault {
+impl From<DrawFault> for ProgramFault {
     ghost use Rattle.std.specs.Prelude.{◌≡◌};
     ghost use Rattle.program_core.specs.Views.{fault_of_draw};
 
     ghost from_gives = { λ fault given. given ≡ fault_of_draw fault };
 
-    fn from(fault: DrawFault) -> Fault {
+    fn from(fault: DrawFault) -> ProgramFault {
         match fault {
-            DrawFault::OutOfMemory => Fault::OutOfMemory,
-            DrawFault::NoSuchNode | DrawFault::NoWord => Fault::Draw(fault),
+            DrawFault::OutOfMemory => ProgramFault::OutOfMemory,
+            DrawFault::NoSuchNode | DrawFault::NoWord => ProgramFault::Draw(fault),
         }
     }
 }
 
-impl From<WhatifFault> for Fault {
+impl From<WhatifFault> for ProgramFault {
     ghost use Rattle.std.specs.Prelude.{◌≡◌};
     ghost use Rattle.program_core.specs.Whatifs.{fault_of_whatif};
 
     ghost from_gives = { λ fault given. given ≡ fault_of_whatif fault };
 
-    fn from(fault: WhatifFault) -> Fault {
+    fn from(fault: WhatifFault) -> ProgramFault {
         match fault {
-            WhatifFault::OutOfMemory => Fault::OutOfMemory,
+            WhatifFault::OutOfMemory => ProgramFault::OutOfMemory,
             WhatifFault::NoSuchNode
             | WhatifFault::NoWord
-            | WhatifFault::NoSuchChange { changes: _ } => Fault::Whatif(fault),
+            | WhatifFault::NoSuchChange { changes: _ } => ProgramFault::Whatif(fault),
         }
     }
 }
 
-impl From<TranscriptFault> for Fault {
+impl From<TranscriptFault> for ProgramFault {
     ghost use Rattle.std.specs.Prelude.{◌≡◌};
     ghost use Rattle.program_core.specs.Shown.{fault_of_transcript};
 
     ghost from_gives = { λ fault given. given ≡ fault_of_transcript fault };
 
-    fn from(fault: TranscriptFault) -> Fault {
+    fn from(fault: TranscriptFault) -> ProgramFault {
         match fault {
-            TranscriptFault::OutOfMemory => Fault::OutOfMemory,
+            TranscriptFault::OutOfMemory => ProgramFault::OutOfMemory,
             TranscriptFault::NoScript { fault: _ } | TranscriptFault::OtherCalls => {
-                Fault::Transcript(fault)
+                ProgramFault::Transcript(fault)
             }
         }
     }
 }
 
-impl From<ReportFault> for Fault {
+impl From<ReportFault> for ProgramFault {
     ghost use Rattle.std.specs.Prelude.{◌≡◌};
     ghost use Rattle.program_core.specs.Explored.{fault_of_explore};
 
     ghost from_gives = { λ fault given. given ≡ fault_of_explore fault };
 
-    fn from(fault: ReportFault) -> Fault {
+    fn from(fault: ReportFault) -> ProgramFault {
         match fault {
-            ReportFault::OutOfMemory => Fault::OutOfMemory,
+            ReportFault::OutOfMemory => ProgramFault::OutOfMemory,
             ReportFault::NoSuchNode
             | ReportFault::NoWord
             | ReportFault::TooManyStates {
@@ -203,7 +204,7 @@ impl From<ReportFault> for Fault {
             }
             | ReportFault::MayFill
             | ReportFault::TooManySteps
-            | ReportFault::NoSuchOutcome { outcomes: _ } => Fault::Explore(fault),
+            | ReportFault::NoSuchOutcome { outcomes: _ } => ProgramFault::Explore(fault),
         }
     }
 }

@@ -9,7 +9,7 @@ ghost use Rattle.program_core.specs.Texts.{text_bytes};
 ghost use Rattle.program_core.specs.Program.{EndsAt, FailsAs, IsEarly, IsUnwritten, KeepsBefore, TellsMemory, fault_of_import};
 
 use crate::aside::Aside;
-use crate::fault::Fault;
+use crate::fault::ProgramFault;
 use crate::host::Setting;
 use crate::notes::Notes;
 use crate::pages::page_with;
@@ -31,7 +31,7 @@ fn read_events<'a, B: Allocator, R: Read, L: Ledger>(
     alloc: &'a B,
     reader: &mut R,
     steps: &mut Steps<R, L>,
-) -> Result<Vec<u8, &'a B>, Fault>
+) -> Result<Vec<u8, &'a B>, ProgramFault>
     ensures whole { IfOk result (λ bytes. IsWhole (R.remaining reader.old) bytes.items) }
     ensures cause { IfErr result (RefusesEventsAt (R.remaining reader.old)) }
     ensures memory { IfErr result TellsMemory }
@@ -41,9 +41,9 @@ fn read_events<'a, B: Allocator, R: Read, L: Ledger>(
 {
     match read_all(alloc, reader, LONGEST_SESSION, steps) {
         Ok(input) => Ok(input),
-        Err(InputFault::ReadFault) => Err(Fault::ReadFault),
-        Err(InputFault::TooLong) => Err(Fault::LongImport),
-        Err(InputFault::OutOfMemory) => Err(Fault::OutOfMemory),
+        Err(InputFault::ReadFault) => Err(ProgramFault::ReadFault),
+        Err(InputFault::TooLong) => Err(ProgramFault::LongImport),
+        Err(InputFault::OutOfMemory) => Err(ProgramFault::OutOfMemory),
     }
 }
 
@@ -109,12 +109,12 @@ fn tell_missing<A: Allocator, E: Write>(
 }
 
 /// The fault of an import as a fault of the program.
-fn fault_of(fault: ImportFault) -> Fault
+fn fault_of(fault: ImportFault) -> ProgramFault
     ensures { result ≡ fault_of_import fault }
 {
     match fault.kind {
-        FaultKind::OutOfMemory => Fault::OutOfMemory,
-        _ => Fault::Import(fault),
+        FaultKind::OutOfMemory => ProgramFault::OutOfMemory,
+        _ => ProgramFault::Import(fault),
     }
 }
 
@@ -277,13 +277,13 @@ fn make<'a, B: Allocator>(
     wanted: ImportOptions,
     input: &[u8],
     aside: &mut Aside,
-) -> Result<Made<&'a B>, Fault>
+) -> Result<Made<&'a B>, ProgramFault>
     ensures made { IfOk result (λ m. IsMade wanted.check wanted.lines wanted.lenient wanted.form limits input.now (text_bytes m.text) m.differs
         m.left_out.items m.full) }
     ensures refused { IfErr result (RefusesImport wanted.check wanted.lines wanted.lenient wanted.form limits input.now) }
     ensures memory { IfErr result TellsMemory }
     ensures unwritten { IfErr result IsUnwritten }
-    ensures unread { result ≢ Err Fault.ReadFault }
+    ensures unread { result ≢ Err ProgramFault.ReadFault }
 {
     let made = match wanted.form {
         _ if wanted.check => make_check(heap, alloc, limits, wanted, input),
@@ -301,12 +301,12 @@ fn make<'a, B: Allocator>(
 }
 
 /// Writes the text of `made`. Then, if the bench and the real nodes part, ends with the fault `Differs`.
-fn print_made<B: Allocator, W: Write>(writer: &mut W, made: &Made<&B>) -> Result<(), Fault>
+fn print_made<B: Allocator, W: Write>(writer: &mut W, made: &Made<&B>) -> Result<(), ProgramFault>
     ensures { EndsAsMade (text_bytes made.now.text) made.now.differs result (W.contents writer.old) (W.contents writer.new) }
 {
     print(writer, bytes_of(&made.text))?;
     if made.differs {
-        return Err(Fault::Differs);
+        return Err(ProgramFault::Differs);
     }
     Ok(())
 }
@@ -321,7 +321,7 @@ pub fn import_events<B: Allocator, T, C, R: Read, W: Write, E: Write, L: Ledger>
     writer: &mut W,
     errors: &mut E,
     notes: &mut Notes<R, E, L>,
-) -> Result<(), Fault>
+) -> Result<(), ProgramFault>
     ensures ends { EndsAt (subcommands.Import wanted.check wanted.lines wanted.lenient) wanted.form setting.now.limits (R.remaining reader.old) result
         (W.contents writer.old) (W.contents writer.new) }
     ensures read { OnOk result (IsAtEnd (R.remaining reader.new)) }
@@ -351,7 +351,7 @@ pub fn import_events<B: Allocator, T, C, R: Read, W: Write, E: Write, L: Ledger>
     let Ok(()) = tell_missing(alloc, errors, &made.left_out, made.full, &mut notes.lost) else {
         // form: drop before exit
         drop(made);
-        return Err(Fault::OutOfMemory);
+        return Err(ProgramFault::OutOfMemory);
     };
     let printed = print_made(writer, &made);
     drop(made);

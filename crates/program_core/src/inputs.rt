@@ -9,7 +9,7 @@ ghost use Rattle.recording_core.specs.Sessions.{IsSession};
 ghost use Rattle.program_core.specs.Program.{FailsAs, IsBenchAt, IsRunAt, IsUnwritten, RefusesBenchAt, RefusesScript, RefusesSession, TellsMemory};
 
 use crate::aside::Aside;
-use crate::fault::Fault;
+use crate::fault::ProgramFault;
 use crate::host::Setting;
 use crate::notes::Notes;
 use crate::texts::LONGEST_SESSION;
@@ -63,28 +63,28 @@ fn load_bytes<'a, B: Allocator>(
     alloc: &'a B,
     bytes: &[u8],
     aside: &mut Aside,
-) -> Result<Run<'a, B>, Fault>
+) -> Result<Run<'a, B>, ProgramFault>
     ensures session { IfOk result (λ run. IsSession bytes.now run.bench × (run.consoles ≡ free_consoles run.bench)) }
     ensures cause { IfErr result (RefusesSession bytes.now) }
-    ensures long { 67108864 < length bytes.now → result ≡ Err Fault.LongSession }
+    ensures long { 67108864 < length bytes.now → result ≡ Err ProgramFault.LongSession }
     ensures memory { IfErr result TellsMemory }
     ensures unwritten { IfErr result IsUnwritten }
-    ensures unread { result ≢ Err Fault.ReadFault }
+    ensures unread { result ≢ Err ProgramFault.ReadFault }
 {
     if bytes.len() > LONGEST_SESSION {
-        return Err(Fault::LongSession);
+        return Err(ProgramFault::LongSession);
     }
     let bench = match load(heap, alloc, bytes) {
         Ok(bench) => bench,
-        Err(SessionFault::OutOfMemory) => return Err(Fault::OutOfMemory),
+        Err(SessionFault::OutOfMemory) => return Err(ProgramFault::OutOfMemory),
         Err(fault) => {
             aside.of_session(bytes, fault);
-            return Err(Fault::Session(fault));
+            return Err(ProgramFault::Session(fault));
         }
     };
     match unnamed_run(alloc, bench) {
         Ok(run) => Ok(run),
-        Err(_) => Err(Fault::OutOfMemory),
+        Err(_) => Err(ProgramFault::OutOfMemory),
     }
 }
 
@@ -115,20 +115,20 @@ fn play_bytes<'a, B: Allocator>(
     bytes: &[u8],
     limits: Limits,
     aside: &mut Aside,
-) -> Result<Run<'a, B>, Fault>
+) -> Result<Run<'a, B>, ProgramFault>
     ensures played { IfOk result (λ run. IsOkAnd (script_of bytes.now) (λ script. (run.bench ≡ played limits script)
         × (run.consoles ≡ script.cast.consoles))) }
     ensures cause { IfErr result (RefusesScript bytes.now) }
     ensures memory { IfErr result TellsMemory }
     ensures unwritten { IfErr result IsUnwritten }
-    ensures unread { result ≢ Err Fault.ReadFault }
+    ensures unread { result ≢ Err ProgramFault.ReadFault }
 {
     let script = match parse_script(alloc, bytes) {
         Ok(script) => script,
-        Err(fault) if fault.kind == FaultKind::OutOfMemory => return Err(Fault::OutOfMemory),
+        Err(fault) if fault.kind == FaultKind::OutOfMemory => return Err(ProgramFault::OutOfMemory),
         Err(fault) => {
             aside.of_script(bytes, fault);
-            return Err(Fault::Script(fault));
+            return Err(ProgramFault::Script(fault));
         }
     };
     let run = played_run(&script, alloc, limits);
@@ -136,7 +136,7 @@ fn play_bytes<'a, B: Allocator>(
     drop(script);
     match run {
         Ok(run) => Ok(run),
-        Err(_) => Err(Fault::OutOfMemory),
+        Err(_) => Err(ProgramFault::OutOfMemory),
     }
 }
 
@@ -146,7 +146,7 @@ pub fn read_run<'a, B: Allocator, T, C, R: Read, E, L: Ledger>(
     setting: &Setting<'a, B, T, C>,
     reader: &mut R,
     notes: &mut Notes<R, E, L>,
-) -> Result<Run<'a, B>, Fault>
+) -> Result<Run<'a, B>, ProgramFault>
     ensures run { IfOk result (λ run. IsRunAt setting.now.limits (R.remaining reader.old) run.bench run.consoles) }
     ensures cause { IfErr result (RefusesBenchAt (R.remaining reader.old)) }
     ensures memory { IfErr result TellsMemory }
@@ -157,8 +157,8 @@ pub fn read_run<'a, B: Allocator, T, C, R: Read, E, L: Ledger>(
     let alloc = setting.host.alloc;
     let input = match read_front(alloc, reader, LONGEST_SESSION + 1, &mut notes.steps) {
         Ok(input) => input,
-        Err(InputFault::ReadFault) => return Err(Fault::ReadFault),
-        Err(InputFault::OutOfMemory) => return Err(Fault::OutOfMemory),
+        Err(InputFault::ReadFault) => return Err(ProgramFault::ReadFault),
+        Err(InputFault::OutOfMemory) => return Err(ProgramFault::OutOfMemory),
         // `read_front` cuts a long input off, and doesn't refuse it
         Err(InputFault::TooLong) => unreachable!(),
     };
@@ -183,7 +183,7 @@ pub fn read_bench<'a, B: Allocator, T, C, R: Read, E, L: Ledger>(
     setting: &Setting<'a, B, T, C>,
     reader: &mut R,
     notes: &mut Notes<R, E, L>,
-) -> Result<Bench<'a, B>, Fault>
+) -> Result<Bench<'a, B>, ProgramFault>
     ensures bench { IfOk result (IsBenchAt setting.now.limits (R.remaining reader.old)) }
     ensures cause { IfErr result (RefusesBenchAt (R.remaining reader.old)) }
     ensures memory { IfErr result TellsMemory }

@@ -37,7 +37,7 @@ mod text;
 mod texts;
 mod whatifs;
 
-pub use fault::{Fault, Refused};
+pub use fault::{ProgramFault, Refused};
 pub use host::{Host, Setting};
 pub use hosted::{Ended, run};
 pub use notes::Notes;

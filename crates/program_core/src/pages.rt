@@ -6,7 +6,7 @@ ghost use Rattle.command_line.specs.declared.chosen.Subcommand.TheVariants as su
 ghost use Rattle.program_core.specs.Program.{EndsAt, FailsAs, KeepsBefore, TellsMemory};
 ghost use Rattle.program_core.specs.Views.{page_around, page_of, page_with};
 
-use crate::fault::Fault;
+use crate::fault::ProgramFault;
 use crate::host::Setting;
 use crate::inputs::{Run, read_run};
 use crate::notes::Notes;
@@ -65,7 +65,7 @@ pub fn page_run<B: Allocator, T, C, R: Read, W: Write, E, L: Ledger>(
     reader: &mut R,
     writer: &mut W,
     notes: &mut Notes<R, E, L>,
-) -> Result<(), Fault>
+) -> Result<(), ProgramFault>
     ensures ends { (form : Form) → EndsAt subcommands.Page form setting.now.limits (R.remaining reader.old) result (W.contents writer.old)
         (W.contents writer.new) }
     ensures read { OnOk result (IsAtEnd (R.remaining reader.new)) }
@@ -80,7 +80,7 @@ pub fn page_run<B: Allocator, T, C, R: Read, W: Write, E, L: Ledger>(
     bench.discard();
     drop(consoles);
     let Ok(text) = page else {
-        return Err(Fault::OutOfMemory);
+        return Err(ProgramFault::OutOfMemory);
     };
     print(writer, &text)
 }

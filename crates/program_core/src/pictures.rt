@@ -6,7 +6,7 @@ ghost use Rattle.command_line.specs.declared.chosen.Subcommand.TheVariants as su
 ghost use Rattle.program_core.specs.Program.{EndsAt, FailsAs, KeepsBefore, TellsMemory};
 ghost use Rattle.program_core.specs.Views.{presence_of, view_of};
 
-use crate::fault::Fault;
+use crate::fault::ProgramFault;
 use crate::host::Setting;
 use crate::inputs::{Run, read_run};
 use crate::notes::Notes;
@@ -56,7 +56,7 @@ pub fn draw_run<B: Allocator, T, C, R: Read, W: Write, E, L: Ledger>(
     reader: &mut R,
     writer: &mut W,
     notes: &mut Notes<R, E, L>,
-) -> Result<(), Fault>
+) -> Result<(), ProgramFault>
     ensures ends { (form : Form) → EndsAt (subcommands.Draw drawing.entry) form setting.now.limits (R.remaining reader.old) result (W.contents writer.old)
         (W.contents writer.new) }
     ensures read { OnOk result (IsAtEnd (R.remaining reader.new)) }
@@ -75,10 +75,10 @@ pub fn draw_run<B: Allocator, T, C, R: Read, W: Write, E, L: Ledger>(
     let Run { bench, consoles } = run;
     bench.discard();
     drop(consoles);
-    // form: a `match`, as the proof cites what `Fault::from` ensures
+    // form: a `match`, as the proof cites what `ProgramFault::from` ensures
     let text = match drawn {
         Ok(text) => text,
-        Err(fault) => return Err(Fault::from(fault)),
+        Err(fault) => return Err(ProgramFault::from(fault)),
     };
     print(writer, &text)
 }

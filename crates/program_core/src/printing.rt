@@ -9,7 +9,7 @@ ghost use Rattle.run_core.specs.Report.{history_text};
 ghost use Rattle.program_core.specs.Program.{EndsAt, EndsSoon, FailsAs, IsEarly, IsReadBy, KeepsBefore, TellsMemory, TellsOn, TellsWhole, question_of};
 
 use crate::exploring::{Exploration, tell_explored};
-use crate::fault::Fault;
+use crate::fault::ProgramFault;
 use crate::host::Setting;
 use crate::importing::{ImportOptions, import_events};
 use crate::inputs::read_bench;
@@ -53,7 +53,7 @@ fn race_report<B: Allocator + Sync, T: Threads + Wait + Sync, C, R: Read, W: Wri
     reader: &mut R,
     writer: &mut W,
     notes: &mut Notes<R, E, L>,
-) -> Result<(), Fault>
+) -> Result<(), ProgramFault>
     ensures ends { (form : Form) → form ≢ forms.Session → EndsAt subcommands.Race form setting.now.limits (R.remaining reader.old) result
         (W.contents writer.old) (W.contents writer.new) }
     ensures read { OnOk result (IsAtEnd (R.remaining reader.new)) }
@@ -70,7 +70,7 @@ fn race_report<B: Allocator + Sync, T: Threads + Wait + Sync, C, R: Read, W: Wri
     let text = history_of(&mut bench, alloc);
     bench.discard();
     let Ok(text) = text else {
-        return Err(Fault::OutOfMemory);
+        return Err(ProgramFault::OutOfMemory);
     };
     print(writer, &text)
 }
@@ -82,7 +82,7 @@ fn race_session<B: Allocator + Sync, T: Threads + Wait + Sync, C, R: Read, W: Wr
     reader: &mut R,
     writer: &mut W,
     notes: &mut Notes<R, E, L>,
-) -> Result<(), Fault>
+) -> Result<(), ProgramFault>
     ensures ends { EndsAt subcommands.Race forms.Session setting.now.limits (R.remaining reader.old) result (W.contents writer.old) (W.contents writer.new) }
     ensures read { OnOk result (IsAtEnd (R.remaining reader.new)) }
     ensures unwritten { IfErr result (λ fault. KeepsBefore fault (W.contents writer.old) (W.contents writer.new)) }
@@ -98,7 +98,7 @@ fn race_session<B: Allocator + Sync, T: Threads + Wait + Sync, C, R: Read, W: Wr
     let text = session_line(setting.host.heap, &mut bench);
     bench.discard();
     let Ok(text) = text else {
-        return Err(Fault::OutOfMemory);
+        return Err(ProgramFault::OutOfMemory);
     };
     print(writer, &text)
 }
@@ -122,7 +122,7 @@ fn explain_bench<B: Allocator, T, C, R: Read, W: Write, E, L: Ledger>(
     reader: &mut R,
     writer: &mut W,
     notes: &mut Notes<R, E, L>,
-) -> Result<(), Fault>
+) -> Result<(), ProgramFault>
     ensures ends { (form : Form) → EndsAt (subcommands.Explain question.entry) form setting.now.limits (R.remaining reader.old) result (W.contents writer.old)
         (W.contents writer.new) }
     ensures read { OnOk result (IsAtEnd (R.remaining reader.new)) }
@@ -134,10 +134,10 @@ fn explain_bench<B: Allocator, T, C, R: Read, W: Write, E, L: Ledger>(
     let told = explain_asked(&bench, setting.host.alloc, question_of(question));
     // form: drop before exit
     bench.discard();
-    // form: a `match`, as the proof cites what `Fault::from` ensures
+    // form: a `match`, as the proof cites what `ProgramFault::from` ensures
     let text = match told {
         Ok(text) => text,
-        Err(fault) => return Err(Fault::from(fault)),
+        Err(fault) => return Err(ProgramFault::from(fault)),
     };
     print(writer, text.as_bytes())
 }
@@ -152,7 +152,7 @@ fn tell_changes<B: Allocator, T, C: Clock, R: Read, W: Write, E: Write, L: Ledge
     writer: &mut W,
     errors: &mut E,
     notes: &mut Notes<R, E, L>,
-) -> Result<(), Fault>
+) -> Result<(), ProgramFault>
     ensures ends { (form : Form) → EndsAt (subcommands.Whatif asked.entry.question asked.entry.change) form setting.now.limits (R.remaining reader.old) result
         (W.contents writer.old) (W.contents writer.new) }
     ensures read { OnOk result (IsAtEnd (R.remaining reader.new)) }
@@ -166,10 +166,10 @@ fn tell_changes<B: Allocator, T, C: Clock, R: Read, W: Write, E: Write, L: Ledge
     let told = tell_whatif(&mut bench, setting.host.alloc, asked, &mut teller);
     // form: drop before exit
     bench.discard();
-    // form: a `match`, as the proof cites what `Fault::from` ensures
+    // form: a `match`, as the proof cites what `ProgramFault::from` ensures
     let text = match told {
         Ok(text) => text,
-        Err(fault) => return Err(Fault::from(fault)),
+        Err(fault) => return Err(ProgramFault::from(fault)),
     };
     print(writer, text.as_bytes())
 }
@@ -183,7 +183,7 @@ fn explore_bench<B: Allocator, T, C: Clock, R: Read, W: Write, E: Write, L: Ledg
     writer: &mut W,
     errors: &mut E,
     notes: &mut Notes<R, E, L>,
-) -> Result<(), Fault>
+) -> Result<(), ProgramFault>
     ensures ends { (form : Form) → EndsAt (subcommands.Explore asked.entry.about asked.entry.lost asked.entry.again asked.entry.states
         asked.entry.outcome) form setting.now.limits (R.remaining reader.old) result (W.contents writer.old) (W.contents writer.new) }
     ensures read { OnOk result (IsAtEnd (R.remaining reader.new)) }
@@ -197,19 +197,19 @@ fn explore_bench<B: Allocator, T, C: Clock, R: Read, W: Write, E: Write, L: Ledg
     let told = tell_explored(&mut bench, setting.host.alloc, asked, &mut teller);
     // form: drop before exit
     bench.discard();
-    // form: a `match`, as the proof cites what `Fault::from` ensures
+    // form: a `match`, as the proof cites what `ProgramFault::from` ensures
     let text = match told {
         Ok(text) => text,
-        Err(fault) => return Err(Fault::from(fault)),
+        Err(fault) => return Err(ProgramFault::from(fault)),
     };
     print(writer, text.as_bytes())
 }
 
-/// Does what was chosen. At a prompt it answers each line before it reads the next. Else it reads the input first, and
-/// writes nothing before the whole text is ready. On `errors` stand only the signs of a prompt on a terminal, how far
-/// long work has come, and what is missing from an import. `notes` gets the hint for an input that is refused, counts
-/// the calls of `read`, and notes if what is missing can't be written.
-pub fn answer<
+/// Does what was chosen. At a prompt it responds to each line before it reads the next. Else it reads the input first,
+/// and writes nothing before the whole text is ready. On `errors` stand only the signs of a prompt on a terminal, how
+/// far long work has come, and what is missing from an import. `notes` gets the hint for an input that is refused,
+/// counts the calls of `read`, and notes if what is missing can't be written.
+pub fn carry_out<
     B: Allocator + Sync,
     T: Threads + Wait + Sync,
     C: Clock,
@@ -224,7 +224,7 @@ pub fn answer<
     writer: &mut W,
     errors: &mut E,
     notes: &mut Notes<R, E, L>,
-) -> Result<(), Fault>
+) -> Result<(), ProgramFault>
     ensures ends { EndsAt choice.entry.command choice.entry.form setting.now.limits (R.remaining reader.old) result (W.contents writer.old)
         (W.contents writer.new) }
     ensures read { OnOk result (IsReadBy choice.entry.command (R.remaining reader.old) (R.remaining reader.new)) }

@@ -4,7 +4,7 @@ ghost use Rattle.grammar_core.specs.Scripts.{plain_script};
 ghost use Rattle.program_core.specs.Program.{TellsMemory, IsUnwritten, fault_of_race};
 ghost use Rattle.program_core.specs.Races.{IsRaceOf, RefusesRaceOf};
 
-use crate::fault::Fault;
+use crate::fault::ProgramFault;
 use bench_core::{Bench, Limits};
 use script_core::{FaultKind, Script, actors, acts, node_names};
 use std::alloc::Allocator;
@@ -22,12 +22,12 @@ impl Gate for Idle {
 }
 
 /// The fault of a race as a fault of the program.
-fn fault_of(fault: RaceFault) -> Fault
+fn fault_of(fault: RaceFault) -> ProgramFault
     ensures { result ≡ fault_of_race fault }
 {
     match fault {
-        RaceFault::OutOfMemory => Fault::OutOfMemory,
-        fault => Fault::Race(fault),
+        RaceFault::OutOfMemory => ProgramFault::OutOfMemory,
+        fault => ProgramFault::Race(fault),
     }
 }
 
@@ -41,7 +41,7 @@ fn discard<A: Allocator>(receipts: Receipts<A>) {
 /// fault, and drops the bench.
 fn outcome<'a, B: Allocator>(
     raced: Result<(Bench<'a, B>, Receipts<&'a B>), (RaceFault, Bench<'a, B>)>,
-) -> Result<Bench<'a, B>, Fault>
+) -> Result<Bench<'a, B>, ProgramFault>
     ensures bench { IfOk raced.entry (λ r. result ≡ Ok r.0) }
     ensures fault { IfErr raced.entry (λ e. result ≡ Err (fault_of_race e.0)) }
 {
@@ -65,7 +65,7 @@ pub fn race_script<'a, B: Allocator + Sync, T: Threads + Wait + Sync>(
     alloc: &'a B,
     script: &Script<&'a B>,
     limits: Limits,
-) -> Result<Bench<'a, B>, Fault>
+) -> Result<Bench<'a, B>, ProgramFault>
     ensures raced { IfOk result (IsRaceOf limits (plain_script script.now)) }
     ensures cause { IfErr result (RefusesRaceOf limits (plain_script script.now)) }
     ensures memory { IfErr result TellsMemory }
@@ -73,14 +73,14 @@ pub fn race_script<'a, B: Allocator + Sync, T: Threads + Wait + Sync>(
 {
     let lines = match acts(alloc, script) {
         Ok(lines) => lines,
-        Err(fault) if fault.kind == FaultKind::OutOfMemory => return Err(Fault::OutOfMemory),
-        Err(fault) => return Err(Fault::Script(fault)),
+        Err(fault) if fault.kind == FaultKind::OutOfMemory => return Err(ProgramFault::OutOfMemory),
+        Err(fault) => return Err(ProgramFault::Script(fault)),
     };
     let Ok(names) = node_names(script).try_copy() else {
-        return Err(Fault::OutOfMemory);
+        return Err(ProgramFault::OutOfMemory);
     };
     let Ok(bench) = Bench::new(alloc, names, limits) else {
-        return Err(Fault::OutOfMemory);
+        return Err(ProgramFault::OutOfMemory);
     };
     outcome(race(rt, alloc, bench, actors(script), lines, &Idle))
 }

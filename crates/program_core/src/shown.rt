@@ -11,7 +11,7 @@ ghost use Rattle.program_core.specs.Program.{EndsAt, FailsAs, KeepsBefore, Tells
 ghost use Rattle.program_core.specs.Shown.{EndsAsShown, IsWant, PrintsBench, PrintsPlay, RefusesBench, RefusesCalls, RefusesPlay, ShowsBench, ShowsScript, line_refused, act_refused, refused_act, refused_line};
 ghost use Rattle.program_core.specs.Texts.{session_text, text_bytes};
 
-use crate::fault::{Fault, Refused};
+use crate::fault::{ProgramFault, Refused};
 use crate::host::Setting;
 use crate::inputs::consoles_of;
 use crate::notes::Notes;
@@ -39,14 +39,14 @@ fn steps_of_script<'a, B: Allocator>(
     alloc: &'a B,
     limits: Limits,
     bench: &mut Bench<'a, B>,
-) -> Result<Text<&'a B>, Fault>
+) -> Result<Text<&'a B>, ProgramFault>
     requires { bench.old ≡ played limits (plain_script script.now) }
     ensures ok { IfOk result (λ text. text_bytes text ≡ script_steps limits (plain_script script.now)) }
     ensures err { IfErr result IsWant }
 {
     match script_steps(script, alloc, limits, bench) {
         Ok(text) => Ok(Text::Own(text)),
-        Err(_) => Err(Fault::OutOfMemory),
+        Err(_) => Err(ProgramFault::OutOfMemory),
     }
 }
 
@@ -55,13 +55,13 @@ fn steps_of_bench<'a, B: Allocator>(
     bench: &mut Bench<'a, B>,
     alloc: &'a B,
     consoles: &TextSet<&'a B>,
-) -> Result<Text<&'a B>, Fault>
+) -> Result<Text<&'a B>, ProgramFault>
     ensures ok { IfOk result (λ text. text_bytes text ≡ bench_steps bench.old consoles.now) }
     ensures err { IfErr result IsWant }
 {
     match bench_steps(bench, alloc, consoles) {
         Ok(text) => Ok(Text::Own(text)),
-        Err(_) => Err(Fault::OutOfMemory),
+        Err(_) => Err(ProgramFault::OutOfMemory),
     }
 }
 
@@ -70,14 +70,14 @@ fn calls_of<'a, B: Allocator>(
     bench: &mut Bench<'a, B>,
     alloc: &'a B,
     consoles: &TextSet<&'a B>,
-) -> Result<Text<&'a B>, Fault>
+) -> Result<Text<&'a B>, ProgramFault>
     ensures ok { IfOk result (λ text. IsScriptOf bench.old consoles.now (text_bytes text)) }
     ensures err { IfErr result (RefusesCalls bench.old consoles.now) }
 {
     // form: each arm is a case of the proof
     match script_of_calls(bench, alloc, consoles) {
         Ok(text) => Ok(Text::Own(text.into_bytes())),
-        Err(fault) => Err(Fault::from(fault)),
+        Err(fault) => Err(ProgramFault::from(fault)),
     }
 }
 
@@ -85,13 +85,13 @@ fn calls_of<'a, B: Allocator>(
 fn session_of<'a, B: Allocator>(
     heap: Global,
     bench: &mut Bench<'a, B>,
-) -> Result<Text<&'a B>, Fault>
+) -> Result<Text<&'a B>, ProgramFault>
     ensures ok { IfOk result (λ text. text_bytes text ≡ session_text bench.old) }
     ensures err { IfErr result IsWant }
 {
     match session_line(heap, bench) {
         Ok(text) => Ok(Text::Heap(text)),
-        Err(_) => Err(Fault::OutOfMemory),
+        Err(_) => Err(ProgramFault::OutOfMemory),
     }
 }
 
@@ -102,12 +102,12 @@ fn played_text<'a, B: Allocator>(
     alloc: &'a B,
     limits: Limits,
     form: Form,
-) -> Result<Text<&'a B>, Fault>
+) -> Result<Text<&'a B>, ProgramFault>
     ensures ok { IfOk result (λ text. PrintsPlay form limits (plain_script script.now) (text_bytes text)) }
     ensures err { IfErr result (RefusesPlay form limits (plain_script script.now)) }
 {
     let Ok(played) = run_script(script, alloc, limits) else {
-        return Err(Fault::OutOfMemory);
+        return Err(ProgramFault::OutOfMemory);
     };
     let Played { mut bench, report } = played;
     let text = match form {
@@ -128,7 +128,7 @@ fn told_text<'a, B: Allocator>(
     alloc: &'a B,
     told: Played<'a, B>,
     form: Form,
-) -> Result<Text<&'a B>, Fault>
+) -> Result<Text<&'a B>, ProgramFault>
     requires { told.report.items ≡ history_text told.bench }
     ensures ok { IfOk result (λ text. PrintsBench form told.entry.bench (text_bytes text)) }
     ensures err { IfErr result (RefusesBench form told.entry.bench) }
@@ -137,7 +137,7 @@ fn told_text<'a, B: Allocator>(
     let Ok(consoles) = consoles_of(&mut bench, alloc) else {
         // form: drop before exit
         bench.discard();
-        return Err(Fault::OutOfMemory);
+        return Err(ProgramFault::OutOfMemory);
     };
     let text = match form {
         // only an import chooses a page
@@ -156,7 +156,7 @@ fn refused_line<'a, B: Allocator>(
     alloc: &'a B,
     limits: Limits,
     strict: bool,
-) -> Result<Option<Refused>, Fault>
+) -> Result<Option<Refused>, ProgramFault>
     ensures ok { IfOk result (λ refused. refused ≡ refused_line strict limits (plain_script script.now)) }
     ensures err { IfErr result IsWant }
 {
@@ -169,7 +169,7 @@ fn refused_line<'a, B: Allocator>(
             fault: refusal.fault,
         })),
         Ok(None) => Ok(None),
-        Err(_) => Err(Fault::OutOfMemory),
+        Err(_) => Err(ProgramFault::OutOfMemory),
     }
 }
 
@@ -199,7 +199,7 @@ fn show_script<'a, B: Allocator>(
     limits: Limits,
     form: Form,
     strict: bool,
-) -> Result<Shown<&'a B>, Fault>
+) -> Result<Shown<&'a B>, ProgramFault>
     ensures ok { IfOk result (λ shown. ShowsScript strict form limits (plain_script script.now) (text_bytes shown.text) shown.refused) }
     ensures err { IfErr result (RefusesPlay form limits (plain_script script.now)) }
 {
@@ -215,7 +215,7 @@ fn show_session<'a, B: Allocator>(
     mut told: Played<'a, B>,
     form: Form,
     strict: bool,
-) -> Result<Shown<&'a B>, Fault>
+) -> Result<Shown<&'a B>, ProgramFault>
     requires { told.report.items ≡ history_text told.bench }
     ensures ok { IfOk result (λ shown. ShowsBench strict form told.entry.bench (text_bytes shown.text) shown.refused) }
     ensures err { IfErr result (RefusesBench form told.entry.bench) }
@@ -226,12 +226,12 @@ fn show_session<'a, B: Allocator>(
 }
 
 /// Writes the text of `shown`. Then, if an act or an unwind was refused in a strict run, ends with the fault `Refused`.
-fn finish<W: Write, A: Allocator>(writer: &mut W, shown: &Shown<A>) -> Result<(), Fault>
+fn finish<W: Write, A: Allocator>(writer: &mut W, shown: &Shown<A>) -> Result<(), ProgramFault>
     ensures { EndsAsShown (text_bytes shown.now.text) shown.now.refused result (W.contents writer.old) (W.contents writer.new) }
 {
     print(writer, bytes_of(&shown.text))?;
     match shown.refused {
-        Some(refused) => Err(Fault::Refused(refused)),
+        Some(refused) => Err(ProgramFault::Refused(refused)),
         None => Ok(()),
     }
 }
@@ -246,7 +246,7 @@ pub fn play_shown<B: Allocator, T, C, R: Read, W: Write, E, L: Ledger>(
     reader: &mut R,
     writer: &mut W,
     notes: &mut Notes<R, E, L>,
-) -> Result<(), Fault>
+) -> Result<(), ProgramFault>
     ensures ends { EndsAt (subcommands.Play strict) form setting.now.limits (R.remaining reader.old) result (W.contents writer.old) (W.contents writer.new) }
     ensures read { OnOk result (IsAtEnd (R.remaining reader.new)) }
     ensures unwritten { IfErr result (λ fault. KeepsBefore fault (W.contents writer.old) (W.contents writer.new)) }
@@ -282,7 +282,7 @@ pub fn load_shown<B: Allocator, T, C, R: Read, W: Write, E, L: Ledger>(
     reader: &mut R,
     writer: &mut W,
     notes: &mut Notes<R, E, L>,
-) -> Result<(), Fault>
+) -> Result<(), ProgramFault>
     ensures ends { EndsAt (subcommands.Load strict) form setting.now.limits (R.remaining reader.old) result (W.contents writer.old) (W.contents writer.new) }
     ensures read { OnOk result (IsAtEnd (R.remaining reader.new)) }
     ensures unwritten { IfErr result (λ fault. KeepsBefore fault (W.contents writer.old) (W.contents writer.new)) }

@@ -6,10 +6,10 @@ ghost use Rattle.program_core.specs.Program.{status_of, Announces, EndsAt, EndsP
 ghost use Rattle.stream_core.specs.Steps.{Steps as Count};
 
 use crate::aside::Aside;
-use crate::fault::Fault;
+use crate::fault::ProgramFault;
 use crate::host::{Host, Setting};
 use crate::notes::Notes;
-use crate::printing::answer;
+use crate::printing::carry_out;
 use bench_core::Limits;
 use clap::error::ErrorKind;
 use command_line::{Choice, Subcommand, choice};
@@ -24,23 +24,23 @@ use std::sync::ledger::{Blank, Ledger};
 use std::thread::Threads;
 use std::time::Clock;
 
-/// The status of an answer: 0, or that of the fault.
-fn status_of(answer: Result<(), Fault>) -> u8
-    ensures { result ≡ status_of answer }
+/// The status of an outcome: 0, or that of the fault.
+fn status_of(outcome: Result<(), ProgramFault>) -> u8
+    ensures { result ≡ status_of outcome }
 {
-    match answer {
+    match outcome {
         Ok(()) => 0,
         Err(fault) => fault.status(),
     }
 }
 
-/// If the answer is a fault, prints the fault as a line on `errors`, and then the hint, if there is one, both as far as
-/// they can be written. Prints nothing for a check that found a difference.
-fn tell_fault<E: Write>(answer: Result<(), Fault>, aside: &Aside, errors: &mut E)
-    ensures quiet { IsFine answer → E.contents errors.new ≡ E.contents errors.old }
+/// If the outcome is a fault, prints the fault as a line on `errors`, and then the hint, if there is one, both as far
+/// as they can be written. Prints nothing for a check that found a difference.
+fn tell_fault<E: Write>(outcome: Result<(), ProgramFault>, aside: &Aside, errors: &mut E)
+    ensures quiet { IsFine outcome → E.contents errors.new ≡ E.contents errors.old }
 {
-    match answer {
-        Ok(()) | Err(Fault::Differs) => {}
+    match outcome {
+        Ok(()) | Err(ProgramFault::Differs) => {}
         Err(fault) => {
             let _ = writeln!(errors, "presence_bench: {fault}");
             aside.put(errors);
@@ -100,7 +100,7 @@ fn announce<E: Write>(heap: Global, command: Subcommand<'_>, errors: &mut E, ter
 }
 
 /// Says what `announce` says, and then does what was chosen.
-fn answer_on<
+fn carry_out_announced<
     B: Allocator + Sync,
     T: Threads + Wait + Sync,
     C: Clock,
@@ -115,7 +115,7 @@ fn answer_on<
     writer: &mut W,
     errors: &mut E,
     notes: &mut Notes<R, E, L>,
-) -> Result<(), Fault>
+) -> Result<(), ProgramFault>
     ensures ends { EndsAt choice.entry.command choice.entry.form setting.now.limits (R.remaining reader.old) result (W.contents writer.old)
         (W.contents writer.new) }
     ensures read { OnOk result (IsReadBy choice.entry.command (R.remaining reader.old) (R.remaining reader.new)) }
@@ -130,10 +130,11 @@ fn answer_on<
         (R.remaining reader.old) notes.new.lost (E.contents errors.old) (E.contents errors.new) }
 {
     announce(setting.host.heap, choice.command, errors, setting.terminal);
-    answer(setting, choice, reader, writer, errors, notes)
+    carry_out(setting, choice, reader, writer, errors, notes)
 }
 
-/// Does what `answer_on` does, and gives the status. Prints a fault and its hint on `errors`, as `tell_fault` does.
+/// Does what `carry_out_announced` does, and gives the status. Prints a fault and its hint on `errors`, as `tell_fault`
+/// does.
 fn run_choice<
     B: Allocator + Sync,
     T: Threads + Wait + Sync,
@@ -157,16 +158,16 @@ fn run_choice<
     ensures told { IsEnd result → TellsBehind setting.now.terminal setting.now.limits choice.entry.command choice.entry.form
         (R.remaining reader.old) notes.new.lost (E.contents errors.old) (E.contents errors.new) }
 {
-    let answer = answer_on(setting, choice, reader, writer, errors, notes);
-    tell_fault(answer, &notes.aside, errors);
-    status_of(answer)
+    let outcome = carry_out_announced(setting, choice, reader, writer, errors, notes);
+    tell_fault(outcome, &notes.aside, errors);
+    status_of(outcome)
 }
 
 /// Prints that a request for memory was refused, and gives the status of that fault.
 pub fn tell_out_of_memory<E: Write>(errors: &mut E) -> u8
     ensures status { result ≡ 4 }
 {
-    let _ = writeln!(errors, "presence_bench: {}", Fault::OutOfMemory);
+    let _ = writeln!(errors, "presence_bench: {}", ProgramFault::OutOfMemory);
     4
 }
 
@@ -199,8 +200,8 @@ fn tell_words<E: Write>(heap: Global, fault: &clap::Error, errors: &mut E) {
     }
 }
 
-/// Answers words that choose nothing, and gives the status. Help and the version go to the output; a fault of the words
-/// goes to the errors, and has the status 2, or 4 if memory was refused.
+/// Prints what words get that choose nothing, and gives the status. Help and the version go to the output; a fault of
+/// the words goes to the errors, and has the status 2, or 4 if memory was refused.
 fn refuse<W: Write, E: Write>(
     heap: Global,
     fault: &clap::Error,

@@ -7,7 +7,7 @@ ghost use Rattle.program_core.specs.Program.{EndsAt, EndsSoon, FailsAs, KeepsBef
 ghost use Rattle.command_line.specs.declared.chosen.Form.{Form};
 ghost use Rattle.command_line.specs.declared.chosen.Subcommand.TheVariants as subcommands;
 
-use crate::fault::Fault;
+use crate::fault::ProgramFault;
 use crate::host::Setting;
 use command_line::LANGUAGE;
 use prompt_core::laws::report_law;
@@ -25,15 +25,15 @@ fn help() -> &'static str
     LANGUAGE
 }
 
-/// Reads the input line by line, and answers each line before it reads the next. If the input is a terminal, it shows a
-/// sign on `errors` before it reads a line. `steps` counts the calls of `read`.
+/// Reads the input line by line, and responds to each line before it reads the next. If the input is a terminal, it
+/// shows a sign on `errors` before it reads a line. `steps` counts the calls of `read`.
 pub fn step_script<B: Allocator, T, C, R: Read, W: Write, E: Write, L: Ledger>(
     setting: &Setting<'_, B, T, C>,
     reader: &mut R,
     writer: &mut W,
     errors: &mut E,
     steps: &mut Steps<R, L>,
-) -> Result<(), Fault>
+) -> Result<(), ProgramFault>
     ensures ends { (form : Form) → EndsAt subcommands.Step form setting.now.limits (R.remaining reader.old) result
         (W.contents writer.old) (W.contents writer.new) }
     ensures read { OnOk result (IsRead (R.remaining reader.old) (R.remaining reader.new)) }
@@ -55,6 +55,6 @@ pub fn step_script<B: Allocator, T, C, R: Read, W: Write, E: Write, L: Ledger>(
     };
     match step_counted(&prompt, reader, writer, errors, steps) {
         Ok(()) => Ok(()),
-        Err(fault) => Err(Fault::Prompt(fault)),
+        Err(fault) => Err(ProgramFault::Prompt(fault)),
     }
 }

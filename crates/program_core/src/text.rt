@@ -3,7 +3,7 @@ ghost use Rattle.std.specs.Prelude.{◌≡◌};
 ghost use Rattle.program_core.specs.Program.{EndsAsText};
 ghost use Rattle.program_core.specs.Texts.{text_bytes};
 
-use crate::fault::Fault;
+use crate::fault::ProgramFault;
 use script_core::write_out;
 use std::alloc::Allocator;
 use std::io::Write;
@@ -26,12 +26,12 @@ pub(crate) fn bytes_of<A: Allocator>(text: &Text<A>) -> &[u8]
 }
 
 /// Writes the whole text; `WriteFault` says how many of its bytes went out.
-pub(crate) fn print<W: Write>(writer: &mut W, text: &[u8]) -> Result<(), Fault>
+pub(crate) fn print<W: Write>(writer: &mut W, text: &[u8]) -> Result<(), ProgramFault>
     ensures { EndsAsText text.now result (W.contents writer.old) (W.contents writer.new) }
 {
     match write_out(writer, text) {
         Ok(()) => Ok(()),
-        Err(fault) => Err(Fault::WriteFault {
+        Err(fault) => Err(ProgramFault::WriteFault {
             written: fault.written,
         }),
     }

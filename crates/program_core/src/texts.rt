@@ -8,7 +8,7 @@ ghost use Rattle.program_core.specs.Program.{FailsAs, IsScriptAt, IsSessionAt, I
 ghost use Rattle.program_core.specs.Texts.{session_text};
 
 use crate::aside::Aside;
-use crate::fault::Fault;
+use crate::fault::ProgramFault;
 use bench_core::Bench;
 use grammar_core::LONGEST_SCRIPT;
 use script_core::{
@@ -30,7 +30,7 @@ pub fn read_script<'a, B: Allocator, R: Read, L: Ledger>(
     reader: &mut R,
     aside: &mut Aside,
     steps: &mut Steps<R, L>,
-) -> Result<Script<&'a B>, Fault>
+) -> Result<Script<&'a B>, ProgramFault>
     ensures script { IfOk result (λ script. IsScriptAt (R.remaining reader.old) (plain_script script)) }
     ensures cause { IfErr result (RefusesScriptAt (R.remaining reader.old)) }
     ensures memory { IfErr result TellsMemory }
@@ -40,23 +40,23 @@ pub fn read_script<'a, B: Allocator, R: Read, L: Ledger>(
 {
     let input = match read_all(alloc, reader, LONGEST_SCRIPT, steps) {
         Ok(input) => input,
-        Err(InputFault::ReadFault) => return Err(Fault::ReadFault),
+        Err(InputFault::ReadFault) => return Err(ProgramFault::ReadFault),
         Err(InputFault::TooLong) => {
             let fault = ScriptFault {
                 line: 0,
                 kind: FaultKind::TooLong,
             };
             aside.of_script(&[], fault);
-            return Err(Fault::Script(fault));
+            return Err(ProgramFault::Script(fault));
         }
-        Err(InputFault::OutOfMemory) => return Err(Fault::OutOfMemory),
+        Err(InputFault::OutOfMemory) => return Err(ProgramFault::OutOfMemory),
     };
     match parse_script(alloc, &input) {
         Ok(script) => Ok(script),
-        Err(fault) if fault.kind == FaultKind::OutOfMemory => Err(Fault::OutOfMemory),
+        Err(fault) if fault.kind == FaultKind::OutOfMemory => Err(ProgramFault::OutOfMemory),
         Err(fault) => {
             aside.of_script(&input, fault);
-            Err(Fault::Script(fault))
+            Err(ProgramFault::Script(fault))
         }
     }
 }
@@ -66,7 +66,7 @@ fn session_input<'a, B: Allocator, R: Read, L: Ledger>(
     alloc: &'a B,
     reader: &mut R,
     steps: &mut Steps<R, L>,
-) -> Result<Vec<u8, &'a B>, Fault>
+) -> Result<Vec<u8, &'a B>, ProgramFault>
     ensures whole { IfOk result (λ bytes. IsWhole (R.remaining reader.old) bytes.items) }
     ensures cause { IfErr result (RefusesSessionAt (R.remaining reader.old)) }
     ensures memory { IfErr result TellsMemory }
@@ -76,9 +76,9 @@ fn session_input<'a, B: Allocator, R: Read, L: Ledger>(
 {
     match read_all(alloc, reader, LONGEST_SESSION, steps) {
         Ok(input) => Ok(input),
-        Err(InputFault::ReadFault) => Err(Fault::ReadFault),
-        Err(InputFault::TooLong) => Err(Fault::LongSession),
-        Err(InputFault::OutOfMemory) => Err(Fault::OutOfMemory),
+        Err(InputFault::ReadFault) => Err(ProgramFault::ReadFault),
+        Err(InputFault::TooLong) => Err(ProgramFault::LongSession),
+        Err(InputFault::OutOfMemory) => Err(ProgramFault::OutOfMemory),
     }
 }
 
@@ -90,7 +90,7 @@ pub fn tell_session<'a, B: Allocator, R: Read, L: Ledger>(
     reader: &mut R,
     aside: &mut Aside,
     steps: &mut Steps<R, L>,
-) -> Result<Played<'a, B>, Fault>
+) -> Result<Played<'a, B>, ProgramFault>
     ensures session { IfOk result (λ told. IsSessionAt (R.remaining reader.old) told.bench) }
     ensures report { IfOk result (λ told. told.report.items ≡ history_text told.bench) }
     ensures cause { IfErr result (RefusesSessionAt (R.remaining reader.old)) }
@@ -102,10 +102,10 @@ pub fn tell_session<'a, B: Allocator, R: Read, L: Ledger>(
     let input = session_input(alloc, reader, steps)?;
     match report_session(heap, alloc, &input) {
         Ok(told) => Ok(told),
-        Err(SessionFault::OutOfMemory) => Err(Fault::OutOfMemory),
+        Err(SessionFault::OutOfMemory) => Err(ProgramFault::OutOfMemory),
         Err(refusal) => {
             aside.of_session(&input, refusal);
-            Err(Fault::Session(refusal))
+            Err(ProgramFault::Session(refusal))
         }
     }
 }

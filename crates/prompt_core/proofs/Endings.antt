@@ -13,10 +13,10 @@ use Rattle.grammar_core.specs.Words.{is_text, lines_of, words_of}
 use Rattle.grammar_core.specs.declared.fault.FaultKind.{FaultKind}
 use Rattle.grammar_core.specs.declared.fault.FaultKind.TheVariants.{NotText, TooLong, UnknownWord}
 use Rattle.payload_core.specs.Results.{◌>>=◌}
-use Rattle.run_core.specs.Prompts.{Prompt, answered, taken}
+use Rattle.run_core.specs.Prompts.{Prompt, carried_out, taken}
 use Rattle.stream_core.proofs.Pieces.{first_stays, piece_more, rest_more, rest_stays}
 use Rattle.std.specs.Io.BufRead.{take_through}
-use Rattle.prompt_core.specs.Answers.{are_quits, is_quit}
+use Rattle.prompt_core.specs.Responses.{are_quits, is_quit}
 use Rattle.prompt_core.specs.Ends.{unread, unread_behind}
 use Rattle.prompt_core.proofs.Split.{IsSplit, More, Last, split}
 
@@ -79,10 +79,10 @@ refused_line first line reading quits h = go _ _ h
     go false true is = cc
     go false false is = refused_words first (words_of line) reading (quit_word line quits) is
 
-of_answered : (prompt : Prompt) (text : List ℕ) (read : Result Reading FaultKind) (next : Prompt × List ℕ) →
-    ((reading : Reading) → read ≡ Ok reading → ⊥) → answered prompt text read ≡ Ok next → ⊥
-of_answered prompt text (Err kind) next none is = cc
-of_answered prompt text (Ok reading) next none is = none reading refl
+of_responded : (prompt : Prompt) (text : List ℕ) (read : Result Reading FaultKind) (next : Prompt × List ℕ) →
+    ((reading : Reading) → read ≡ Ok reading → ⊥) → carried_out prompt text read ≡ Ok next → ⊥
+of_responded prompt text (Err kind) next none is = cc
+of_responded prompt text (Ok reading) next none is = none reading refl
 
 pub taken_on : (prompt : Prompt) (text line : List ℕ) (next : Prompt × List ℕ) → taken prompt text line ≡ Ok next → is_quit line ≡ false
 unfolding taken
@@ -91,7 +91,7 @@ taken_on prompt text line next is = go (is_quit line) refl
     go : (b : Bool) → is_quit line ≡ b → is_quit line ≡ false
     go false on = on
     go true quits =
-        absurd (of_answered prompt text (with_line (record { cast = prompt.cast; lines = [] }) 0 line) next
+        absurd (of_responded prompt text (with_line (record { cast = prompt.cast; lines = [] }) 0 line) next
         (λ reading read. refused_line (record { cast = prompt.cast; lines = [] }) line reading quits read) is)
 
 -- an empty line ends none

@@ -1,16 +1,16 @@
--- What is kept of a line has the line's answer, and ends the prompt where the line does.
+-- What is kept of a line has the line's response, and ends the prompt where the line does.
 use Rattle.std.proofs.Common.{◌≡◌, ℕ, ◌<◌, ◌≤◌, ◌==◌, ◌&&◌, nat_lt, Bool, true, false, List, [], length, Err, refl, sym, ap, ◌∙◌, arith}
 use Rattle.std.proofs.lemmas.Bool.{lt-leb, lt-ltb, ltb-false, ltb-true}
 use Rattle.std.proofs.lemmas.List.{length-take-le, take_all}
 use Rattle.grammar_core.specs.Grammar.{Reading, with_line}
 use Rattle.grammar_core.specs.Words.{words_of}
-use Rattle.run_core.specs.Prompts.{Prompt, answered, taken}
+use Rattle.run_core.specs.Prompts.{Prompt, carried_out, taken}
 use Rattle.grammar_core.specs.declared.fault.FaultKind.TheVariants.{TooLong}
 use Rattle.prompt_core.specs.declared.stepping.TheConstants.{KEPT}
-use Rattle.prompt_core.specs.Answers.{answer, answer_by, are_quits, fault_line, is_quit, own_answer}
+use Rattle.prompt_core.specs.Responses.{response, response_by, are_quits, fault_line, is_quit, own_response}
 use Rattle.stream_core.specs.NextLines.{kept}
 
--- the answer to a line that is too long
+-- the response to a line that is too long
 
 refused : (reading : Reading) (number : ℕ) (line : List ℕ) → 4096 < length line → with_line reading number line ≡ Err TooLong
 unfolding with_line
@@ -18,17 +18,17 @@ refused reading number line long = rw (lt-ltb 4096 (length line) long) refl
 
 not_taken : (prompt : Prompt) (line : List ℕ) → 4096 < length line → taken prompt [] line ≡ Err TooLong
 unfolding taken
-not_taken prompt line long = ap (answered prompt []) (refused (record { cast = prompt.cast; lines = [] }) 0 line long)
+not_taken prompt line long = ap (carried_out prompt []) (refused (record { cast = prompt.cast; lines = [] }) 0 line long)
 
-told : (help : List ℕ) (prompt : Prompt) (number : ℕ) (line : List ℕ) → own_answer help prompt number line TooLong ≡ fault_line number TooLong
-unfolding own_answer
+told : (help : List ℕ) (prompt : Prompt) (number : ℕ) (line : List ℕ) → own_response help prompt number line TooLong ≡ fault_line number TooLong
+unfolding own_response
 told help prompt number line = refl
 
-long_answer : (help : List ℕ) (prompt : Prompt) (number : ℕ) (line : List ℕ) → 4096 < length line →
-    answer help prompt number line ≡ (prompt, fault_line number TooLong)
-unfolding answer
-long_answer help prompt number line long =
-    ap (answer_by help prompt number line) (not_taken prompt line long) ∙ ap (λ (text : List ℕ). (prompt, text)) (told help prompt number line)
+long_response : (help : List ℕ) (prompt : Prompt) (number : ℕ) (line : List ℕ) → 4096 < length line →
+    response help prompt number line ≡ (prompt, fault_line number TooLong)
+unfolding response
+long_response help prompt number line long =
+    ap (response_by help prompt number line) (not_taken prompt line long) ∙ ap (λ (text : List ℕ). (prompt, text)) (told help prompt number line)
 
 -- of a line that is too long enough is kept to tell that it is
 long_kept : (line : List ℕ) → 4096 < length line → 4096 < length (kept KEPT line)
@@ -39,15 +39,15 @@ short_kept : (line : List ℕ) → length line ≤ 4096 → kept KEPT line ≡ l
 unfolding kept
 short_kept line few = take_all KEPT line (omega arith)
 
-pub kept_answer : (help : List ℕ) (prompt : Prompt) (number : ℕ) (line : List ℕ) →
-    answer help prompt number (kept KEPT line) ≡ answer help prompt number line
-kept_answer help prompt number line = go (nat_lt 4096 (length line)) refl
+pub kept_response : (help : List ℕ) (prompt : Prompt) (number : ℕ) (line : List ℕ) →
+    response help prompt number (kept KEPT line) ≡ response help prompt number line
+kept_response help prompt number line = go (nat_lt 4096 (length line)) refl
   where
-    go : (b : Bool) → nat_lt 4096 (length line) ≡ b → answer help prompt number (kept KEPT line) ≡ answer help prompt number line
+    go : (b : Bool) → nat_lt 4096 (length line) ≡ b → response help prompt number (kept KEPT line) ≡ response help prompt number line
     go true is =
         let long = ltb-true 4096 (length line) is in
-        long_answer help prompt number (kept KEPT line) (long_kept line long) ∙ sym (long_answer help prompt number line long)
-    go false is = ap (answer help prompt number) (short_kept line (ltb-false 4096 (length line) is))
+        long_response help prompt number (kept KEPT line) (long_kept line long) ∙ sym (long_response help prompt number line long)
+    go false is = ap (response help prompt number) (short_kept line (ltb-false 4096 (length line) is))
 
 -- a line that is too long ends no prompt
 long_on : (line : List ℕ) → 4096 < length line → is_quit line ≡ false

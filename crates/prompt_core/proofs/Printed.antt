@@ -10,9 +10,9 @@ use Rattle.grammar_core.specs.Words.{lines_of}
 use Rattle.grammar_core.specs.Grammar.{Reading, script_of, with_line, with_words}
 use Rattle.std.specs.Io.BufRead.{drop_through, first_piece}
 use Rattle.prompt_core.proofs.Split.{IsSplit, More, Last, split}
-use Rattle.run_core.specs.Prompts.{Prompt, PromptLaw, all_taken, answered, asked, new_prompt, opened, taken}
+use Rattle.run_core.specs.Prompts.{Prompt, PromptLaw, all_taken, asked, carried_out, new_prompt, opened, taken}
 use Rattle.run_core.specs.Report.{commands_of, commands_text, report_of}
-use Rattle.prompt_core.specs.Answers.{answer, answer_by, answers, is_quit}
+use Rattle.prompt_core.specs.Responses.{response, response_by, responses, is_quit}
 use Rattle.prompt_core.proofs.Endings.{empty_on, taken_on}
 
 abbrev Next : Type 0
@@ -29,10 +29,10 @@ asked_prints : (limits : Limits) (cast : Option Cast) (machine : Option Machine)
 asked_prints limits cast None text commands = record { printed = []; alone = refl; behind = sym (append-nil text) }
 asked_prints limits cast (Some machine) text commands = record { printed = commands_text machine commands; alone = refl; behind = refl }
 
-answered_prints : (prompt : Prompt) (text : List ℕ) (read : Result Reading FaultKind) (next : Next) → answered prompt text read ≡ Ok next →
-    Prints text (answered prompt [] read) next
-answered_prints prompt text (Err kind) next is = absurd (cc)
-answered_prints prompt text (Ok reading) next is =
+carried_out_prints : (prompt : Prompt) (text : List ℕ) (read : Result Reading FaultKind) (next : Next) → carried_out prompt text read ≡ Ok next →
+    Prints text (carried_out prompt [] read) next
+carried_out_prints prompt text (Err kind) next is = absurd (cc)
+carried_out_prints prompt text (Ok reading) next is =
     let machine = opened prompt.limits reading.cast prompt.machine in
     let whole : asked prompt.limits reading.cast machine text (commands_of reading.lines) ≡ next = cc in
     let P : Next → Type 0 = λ n. Prints text (Ok (asked prompt.limits reading.cast machine [] (commands_of reading.lines))) n in
@@ -42,59 +42,59 @@ taken_prints : (prompt : Prompt) (text line : List ℕ) (next : Next) → taken 
     Prints text (taken prompt [] line) next
 unfolding taken
 taken_prints prompt text line next is =
-    answered_prints prompt text (with_line (record { cast = prompt.cast; lines = [] }) 0 line) next is
+    carried_out_prints prompt text (with_line (record { cast = prompt.cast; lines = [] }) 0 line) next is
 
--- the answer to a line that a script has
-answer_is : (help : List ℕ) (prompt : Prompt) (number : ℕ) (line : List ℕ) (next : Next) → taken prompt [] line ≡ Ok next →
-    answer help prompt number line ≡ next
-unfolding answer
-answer_is help prompt number line next is = ap (answer_by help prompt number line) is
+-- the response to a line that a script has
+response_is : (help : List ℕ) (prompt : Prompt) (number : ℕ) (line : List ℕ) (next : Next) → taken prompt [] line ≡ Ok next →
+    response help prompt number line ≡ next
+unfolding response
+response_is help prompt number line next is = ap (response_by help prompt number line) is
 
--- the answers to a line and those behind it, where the line doesn't end the prompt
-pub answers_on : (help : List ℕ) (prompt : Prompt) (number : ℕ) (line : List ℕ) (lines : List (List ℕ)) → is_quit line ≡ false →
-    answers help prompt number (line ∷ lines)
-    ≡ (answer help prompt number line).1 ++ answers help (answer help prompt number line).0 (number + 1) lines
-unfolding answers
-answers_on help prompt number line lines on =
-    ap (λ (b : Bool). if b then [] else (answer help prompt number line).1 ++ answers help (answer help prompt number line).0 (number + 1) lines) on
+-- the responses to a line and those behind it, where the line doesn't end the prompt
+pub responses_on : (help : List ℕ) (prompt : Prompt) (number : ℕ) (line : List ℕ) (lines : List (List ℕ)) → is_quit line ≡ false →
+    responses help prompt number (line ∷ lines)
+    ≡ (response help prompt number line).1 ++ responses help (response help prompt number line).0 (number + 1) lines
+unfolding responses
+responses_on help prompt number line lines on =
+    ap (λ (b : Bool). if b then [] else (response help prompt number line).1 ++ responses help (response help prompt number line).0 (number + 1) lines) on
 
-none_answered : (help : List ℕ) (prompt : Prompt) (number : ℕ) (text : List ℕ) (last : Next) → all_taken prompt text [] ≡ Ok last →
-    text ++ answers help prompt number [] ≡ last.1
-unfolding all_taken answers
-none_answered help prompt number text last is =
+none_responded : (help : List ℕ) (prompt : Prompt) (number : ℕ) (text : List ℕ) (last : Next) → all_taken prompt text [] ≡ Ok last →
+    text ++ responses help prompt number [] ≡ last.1
+unfolding all_taken responses
+none_responded help prompt number text last is =
     let first : Next = (prompt, text) in let whole : first ≡ last = cc in append-nil text ∙ ap (λ (n : Next). n.1) whole
 
-one_answered : (help : List ℕ) (prompt : Prompt) (number : ℕ) (text line : List ℕ) (lines : List (List ℕ)) (next : Next) (end : List ℕ) →
-    taken prompt text line ≡ Ok next → next.1 ++ answers help next.0 (number + 1) lines ≡ end
-    → text ++ answers help prompt number (line ∷ lines) ≡ end
-one_answered help prompt number text line lines next end is rest =
+one_responded : (help : List ℕ) (prompt : Prompt) (number : ℕ) (text line : List ℕ) (lines : List (List ℕ)) (next : Next) (end : List ℕ) →
+    taken prompt text line ≡ Ok next → next.1 ++ responses help next.0 (number + 1) lines ≡ end
+    → text ++ responses help prompt number (line ∷ lines) ≡ end
+one_responded help prompt number text line lines next end is rest =
     let prints = taken_prints prompt text line next is in
-    let here : answer help prompt number line ≡ (next.0, prints.printed) = answer_is help prompt number line (next.0, prints.printed) prints.alone in
-    ap (λ t. text ++ t) (answers_on help prompt number line lines (taken_on prompt text line next is))
-    ∙ ap (λ (n : Next). text ++ (n.1 ++ answers help n.0 (number + 1) lines)) here
-    ∙ sym (append_assoc text prints.printed (answers help next.0 (number + 1) lines))
-    ∙ ap (λ t. t ++ answers help next.0 (number + 1) lines) (sym prints.behind) ∙ rest
+    let here : response help prompt number line ≡ (next.0, prints.printed) = response_is help prompt number line (next.0, prints.printed) prints.alone in
+    ap (λ t. text ++ t) (responses_on help prompt number line lines (taken_on prompt text line next is))
+    ∙ ap (λ (n : Next). text ++ (n.1 ++ responses help n.0 (number + 1) lines)) here
+    ∙ sym (append_assoc text prints.printed (responses help next.0 (number + 1) lines))
+    ∙ ap (λ t. t ++ responses help next.0 (number + 1) lines) (sym prints.behind) ∙ rest
 
-lines_answered : (help : List ℕ) (prompt : Prompt) (number : ℕ) (text : List ℕ) (lines : List (List ℕ)) (last : Next) →
-    all_taken prompt text lines ≡ Ok last → text ++ answers help prompt number lines ≡ last.1
+lines_responded : (help : List ℕ) (prompt : Prompt) (number : ℕ) (text : List ℕ) (lines : List (List ℕ)) (last : Next) →
+    all_taken prompt text lines ≡ Ok last → text ++ responses help prompt number lines ≡ last.1
 unfolding all_taken
-lines_answered help prompt number text [] last is = none_answered help prompt number text last is
-lines_answered help prompt number text (line ∷ lines) last is =
-    go (taken prompt text line) (λ next h rest. one_answered help prompt number text line lines next last.1 h rest)
-    (λ next h. lines_answered help next.0 (number + 1) next.1 lines last h) is
+lines_responded help prompt number text [] last is = none_responded help prompt number text last is
+lines_responded help prompt number text (line ∷ lines) last is =
+    go (taken prompt text line) (λ next h rest. one_responded help prompt number text line lines next last.1 h rest)
+    (λ next h. lines_responded help next.0 (number + 1) next.1 lines last h) is
   where
     go : (r : Result Next FaultKind)
-        → ((next : Next) → r ≡ Ok next → next.1 ++ answers help next.0 (number + 1) lines ≡ last.1
-        → text ++ answers help prompt number (line ∷ lines) ≡ last.1)
-        → ((next : Next) → all_taken next.0 next.1 lines ≡ Ok last → next.1 ++ answers help next.0 (number + 1) lines ≡ last.1)
-        → (r >>= λ next. all_taken next.0 next.1 lines) ≡ Ok last → text ++ answers help prompt number (line ∷ lines) ≡ last.1
+        → ((next : Next) → r ≡ Ok next → next.1 ++ responses help next.0 (number + 1) lines ≡ last.1
+        → text ++ responses help prompt number (line ∷ lines) ≡ last.1)
+        → ((next : Next) → all_taken next.0 next.1 lines ≡ Ok last → next.1 ++ responses help next.0 (number + 1) lines ≡ last.1)
+        → (r >>= λ next. all_taken next.0 next.1 lines) ≡ Ok last → text ++ responses help prompt number (line ∷ lines) ≡ last.1
     go (Err kind) one rest is = absurd (cc)
     go (Ok next) one rest is = one next refl (rest next is)
 
 -- of a script without faults the report
-pub script_answered : PromptLaw → (help : List ℕ) (limits : Limits) (bytes : List ℕ) (script : Script) → script_of bytes ≡ Ok script →
-    answers help (new_prompt limits) 1 (lines_of bytes) ≡ report_of limits script
-script_answered law help limits bytes script is = lines_answered help (new_prompt limits) 1 [] (lines_of bytes) _ (law limits bytes script is)
+pub script_responded : PromptLaw → (help : List ℕ) (limits : Limits) (bytes : List ℕ) (script : Script) → script_of bytes ≡ Ok script →
+    responses help (new_prompt limits) 1 (lines_of bytes) ≡ report_of limits script
+script_responded law help limits bytes script is = lines_responded help (new_prompt limits) 1 [] (lines_of bytes) _ (law limits bytes script is)
 
 -- an empty line prints nothing
 
@@ -103,28 +103,28 @@ unfolding commands_text
 blank_by limits cast None = refl
 blank_by limits cast (Some machine) = refl
 
-blank : (help : List ℕ) (prompt : Prompt) (number : ℕ) → (answer help prompt number []).1 ≡ []
-unfolding answer taken with_line with_words
+blank : (help : List ℕ) (prompt : Prompt) (number : ℕ) → (response help prompt number []).1 ≡ []
+unfolding response taken with_line with_words
 blank help prompt number = blank_by prompt.limits prompt.cast (opened prompt.limits prompt.cast prompt.machine)
 
-pub none_left : (help : List ℕ) (prompt : Prompt) (number : ℕ) → answers help prompt number (lines_of []) ≡ []
-unfolding answers
-none_left help prompt number = answers_on help prompt number [] [] empty_on ∙ ap (λ t. t ++ []) (blank help prompt number)
+pub none_left : (help : List ℕ) (prompt : Prompt) (number : ℕ) → responses help prompt number (lines_of []) ≡ []
+unfolding responses
+none_left help prompt number = responses_on help prompt number [] [] empty_on ∙ ap (λ t. t ++ []) (blank help prompt number)
 
 -- the first line of what is left, and then the rest
-pub next_answered : (help : List ℕ) (prompt : Prompt) (number : ℕ) (left : List ℕ) →
-    answers help prompt number (lines_of left)
+pub next_responded : (help : List ℕ) (prompt : Prompt) (number : ℕ) (left : List ℕ) →
+    responses help prompt number (lines_of left)
     ≡ (if is_quit (first_piece 10 left) then []
-    else (answer help prompt number (first_piece 10 left)).1 ++ answers help (answer help prompt number (first_piece 10 left)).0 (number + 1) (lines_of (drop_through 10 left)))
-unfolding answers
-next_answered help prompt number left = go (split left)
+    else (response help prompt number (first_piece 10 left)).1 ++ responses help (response help prompt number (first_piece 10 left)).0 (number + 1) (lines_of (drop_through 10 left)))
+unfolding responses
+next_responded help prompt number left = go (split left)
   where
-    go : IsSplit left → answers help prompt number (lines_of left)
+    go : IsSplit left → responses help prompt number (lines_of left)
         ≡ (if is_quit (first_piece 10 left) then []
-        else (answer help prompt number (first_piece 10 left)).1 ++ answers help (answer help prompt number (first_piece 10 left)).0 (number + 1) (lines_of (drop_through 10 left)))
-    go (More e) = ap (answers help prompt number) e
+        else (response help prompt number (first_piece 10 left)).1 ++ responses help (response help prompt number (first_piece 10 left)).0 (number + 1) (lines_of (drop_through 10 left)))
+    go (More e) = ap (responses help prompt number) e
     go (Last e none) =
-        ap (answers help prompt number) e
-        ∙ ap (λ t. if is_quit (first_piece 10 left) then [] else (answer help prompt number (first_piece 10 left)).1 ++ t)
-        (sym (ap (λ (l : List ℕ). answers help (answer help prompt number (first_piece 10 left)).0 (number + 1) (lines_of l)) none
-        ∙ none_left help (answer help prompt number (first_piece 10 left)).0 (number + 1)))
+        ap (responses help prompt number) e
+        ∙ ap (λ t. if is_quit (first_piece 10 left) then [] else (response help prompt number (first_piece 10 left)).1 ++ t)
+        (sym (ap (λ (l : List ℕ). responses help (response help prompt number (first_piece 10 left)).0 (number + 1) (lines_of l)) none
+        ∙ none_left help (response help prompt number (first_piece 10 left)).0 (number + 1)))

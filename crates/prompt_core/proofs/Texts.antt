@@ -4,11 +4,11 @@ use Rattle.bench_core.specs.Machine.{Machine}
 use Rattle.bench_core.specs.NameList.{Texts, number_in}
 use Rattle.grammar_core.specs.Casts.{Cast}
 use Rattle.grammar_core.specs.Grammar.{Reading, with_line, with_words}
-use Rattle.run_core.specs.Prompts.{Prompt, answered, taken}
+use Rattle.run_core.specs.Prompts.{Prompt, carried_out, taken}
 use Rattle.grammar_core.specs.Words.{is_text, words_of}
 use Rattle.grammar_core.specs.declared.fault.FaultKind.{FaultKind}
 use Rattle.grammar_core.specs.declared.fault.FaultKind.TheVariants.{NoNodes, NotText, OutOfMemory, TooLong}
-use Rattle.prompt_core.specs.Answers.{changes, changes_at, explained, explained_at, fault_line, may_be_own, sent_at, told_by, told_sent}
+use Rattle.prompt_core.specs.Responses.{changes, changes_at, explained, explained_at, fault_line, may_be_own, sent_at, told_by, told_sent}
 
 of_line : (reading : Reading) (line : List ℕ) (long text : Bool) (kind : FaultKind) → is_text line ≡ text →
     (if long then Err TooLong else (if not text then Err NotText else with_words reading 0 (words_of line))) ≡ Err kind → may_be_own kind ≡ true →
@@ -17,7 +17,7 @@ of_line reading line true text kind is refused first_one = let same : TooLong �
 of_line reading line false false kind is refused first_one = let same : NotText ≡ kind = cc in absurd (cc (ap may_be_own same, first_one))
 of_line reading line false true kind is refused first_one = is
 
-of_reading : (prompt : Prompt) (text : List ℕ) (read : Result Reading FaultKind) (kind : FaultKind) → answered prompt text read ≡ Err kind → read ≡ Err kind
+of_reading : (prompt : Prompt) (text : List ℕ) (read : Result Reading FaultKind) (kind : FaultKind) → carried_out prompt text read ≡ Err kind → read ≡ Err kind
 of_reading prompt text (Ok reading) kind refused = absurd (cc)
 of_reading prompt text (Err fault) kind refused = let same : fault ≡ kind = cc in ap Err same
 
@@ -28,7 +28,7 @@ is_line_text prompt text line kind refused first_one =
     of_line reading line (nat_lt 4096 (length line)) (is_text line) kind refl
     (of_reading prompt text (with_line reading 0 line) kind refused) first_one
 
--- so, by what is answered of it, want of memory apart
+-- so, by what is carried out of it, want of memory apart
 pub is_own_text : (prompt : Prompt) (text line : List ℕ) (kind : FaultKind) → (kind ≢ OutOfMemory → taken prompt text line ≡ Err kind) →
     may_be_own kind ≡ true → is_text line ≡ true
 is_own_text prompt text line kind refused first_one =

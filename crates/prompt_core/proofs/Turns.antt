@@ -1,4 +1,4 @@
--- A turn of a prompt: a line is taken in, and its answer goes out.
+-- A turn of a prompt: a line is taken in, and its response goes out.
 use Rattle.std.proofs.Common.{◌≡◌, ℕ, ◌+◌, ◌-◌, ◌^◌, ◌<◌, ◌≤◌, if◌then◌else◌, Bool, true, false, List, [], ◌∷◌, ◌++◌, length, take, drop, Option, Some, None, Result, Ok, Err, IfOk, ◌≢◌, refl, sym, ap, ap₂, ◌∙◌, subst, append_assoc, append-nil, arith}
 use Rattle.std.proofs.KnownBytes.{Appends-nil, Appends-trans}
 use Rattle.std.proofs.Math.Seq.{take-append_seam}
@@ -15,10 +15,10 @@ use Rattle.run_core.specs.Report.{report_of}
 use Rattle.grammar_core.specs.Scripts.{Script}
 use Rattle.grammar_core.specs.declared.fault.ScriptFault.{ScriptFault}
 use Rattle.grammar_core.specs.Words.{lines_of}
-use Rattle.prompt_core.specs.Answers.{answer, answers, is_quit}
+use Rattle.prompt_core.specs.Responses.{response, responses, is_quit}
 use Rattle.stream_core.specs.NextLines.{IsEndless, IsNext, TakesLine, TakesPart, kept}
 use Rattle.stream_core.specs.Steps.{FailsAs as InputFailsAs, Steps}
-use Rattle.prompt_core.specs.Ends.{Answers, EndsEarly, FailsAs, HasNoQuit, IsCutShort, IsRead, ReportLaw, Reports, of_input, printed, unread}
+use Rattle.prompt_core.specs.Ends.{Responds, EndsEarly, FailsAs, HasNoQuit, IsCutShort, IsRead, ReportLaw, Reports, of_input, printed, unread}
 use Rattle.prompt_core.specs.declared.stepping.TheConstants.{KEPT}
 use Rattle.prompt_core.specs.declared.prompt_fault.PromptFault.{PromptFault}
 use Rattle.prompt_core.specs.declared.prompt_fault.PromptFault.TheVariants as prompts
@@ -26,9 +26,9 @@ use Rattle.prompt_core.specs.declared.prompt_fault.PromptFault.TheVariants.{Read
 use Rattle.stream_core.specs.declared.stream_fault.InputFault.{InputFault}
 use Rattle.stream_core.specs.declared.stream_fault.InputFault.TheVariants as inputs
 use Rattle.prompt_core.proofs.Endings.{next_quits, none_quits, quits, unread_ended, unread_none, unread_on}
-use Rattle.prompt_core.proofs.Kept.{kept_answer, kept_quit}
+use Rattle.prompt_core.proofs.Kept.{kept_response, kept_quit}
 use Rattle.stream_core.proofs.Pieces.{first_stays, is_line, rest_stays, some_taken, taken_whole}
-use Rattle.prompt_core.proofs.Printed.{next_answered, none_left}
+use Rattle.prompt_core.proofs.Printed.{next_responded, none_left}
 
 appends_as : (old new : Option (List ℕ)) (a b : List ℕ) → a ≡ b → Appends old new a → Appends old new b
 appends_as old new a b is first = subst (λ (t : List ℕ). Appends old new t) is first
@@ -36,16 +36,16 @@ appends_as old new a b is first = subst (λ (t : List ℕ). Appends old new t) i
 starts_as : (whole front behind : List ℕ) → whole ≡ front ++ behind → StartsWith whole front
 starts_as whole front behind is = subst (λ (l : List ℕ). StartsWith l front) (sym is) (take-append_seam front behind)
 
--- how far a prompt has come: what it answered of the input, and that it answers what is left, or the first lines of it, as the
+-- how far a prompt has come: what it finished of the input, and that it responds to what is left, or the first lines of it, as the
 -- whole asks
 pub record HasCome (help : List ℕ) (limits : Limits) (input left : List ℕ) (prompt : Prompt) (number : ℕ) (old new : Option (List ℕ)) : Type 0 where
-  pub answered : List ℕ
+  pub finished : List ℕ
   pub text : List ℕ
-  pub taken : input ≡ answered ++ left
+  pub taken : input ≡ finished ++ left
   pub out : Appends old new text
-  pub counted : number ≤ length answered + 1
-  pub goes_on : (more behind : List ℕ) → left ≡ more ++ behind → printed help limits (answered ++ more) ≡ text ++ answers help prompt number (lines_of more)
-  pub unended : (more behind : List ℕ) → left ≡ more ++ behind → quits (answered ++ more) ≡ quits more
+  pub counted : number ≤ length finished + 1
+  pub goes_on : (more behind : List ℕ) → left ≡ more ++ behind → printed help limits (finished ++ more) ≡ text ++ responses help prompt number (lines_of more)
+  pub unended : (more behind : List ℕ) → left ≡ more ++ behind → quits (finished ++ more) ≡ quits more
   pub unread_is : unread input ≡ unread left
 
 -- the same, where the reader's bytes are known
@@ -57,21 +57,21 @@ HasComeSo help limits (Some input) (Some left) prompt number old new = HasCome h
 -- the lines of an input of which no more than these are left
 next_first : (help : List ℕ) (prompt : Prompt) (number : ℕ) (left more behind : List ℕ) → drop_through 10 left ≡ more ++ behind →
     is_quit (first_piece 10 left) ≡ false →
-    answers help prompt number (lines_of (take_through 10 left ++ more))
-    ≡ (answer help prompt number (first_piece 10 left)).1 ++ answers help (answer help prompt number (first_piece 10 left)).0 (number + 1) (lines_of more)
+    responses help prompt number (lines_of (take_through 10 left ++ more))
+    ≡ (response help prompt number (first_piece 10 left)).1 ++ responses help (response help prompt number (first_piece 10 left)).0 (number + 1) (lines_of more)
 next_first help prompt number left more behind is on =
-    next_answered help prompt number (take_through 10 left ++ more)
-    ∙ ap₂ (λ (l m : List ℕ). if is_quit l then [] else (answer help prompt number l).1 ++ answers help (answer help prompt number l).0 (number + 1) (lines_of m))
+    next_responded help prompt number (take_through 10 left ++ more)
+    ∙ ap₂ (λ (l m : List ℕ). if is_quit l then [] else (response help prompt number l).1 ++ responses help (response help prompt number l).0 (number + 1) (lines_of m))
     (first_stays left more behind is) (rest_stays left more behind is)
     ∙ ap (λ (b : Bool). if b then []
-    else (answer help prompt number (first_piece 10 left)).1 ++ answers help (answer help prompt number (first_piece 10 left)).0 (number + 1) (lines_of more)) on
+    else (response help prompt number (first_piece 10 left)).1 ++ responses help (response help prompt number (first_piece 10 left)).0 (number + 1) (lines_of more)) on
 
 module _ (help : List ℕ) (limits : Limits) where
   -- before the first line
   pub begins : (input old : Option (List ℕ)) → HasComeSo help limits input input (new_prompt limits) 1 old old
   begins None old = tt
   begins (Some input) old = record {
-    answered = [];
+    finished = [];
     text = [];
     taken = refl;
     out = Appends-nil old;
@@ -81,31 +81,31 @@ module _ (help : List ℕ) (limits : Limits) where
     unread_is = refl;
   }
 
-  -- what went out is what is printed of what was answered
+  -- what went out is what is printed of what was finished
   module _ (input left : List ℕ) (prompt : Prompt) (number : ℕ) (old new : Option (List ℕ)) where
-    text_is : (come : HasCome help limits input left prompt number old new) → printed help limits come.answered ≡ come.text
+    text_is : (come : HasCome help limits input left prompt number old new) → printed help limits come.finished ≡ come.text
     text_is come =
-        ap (printed help limits) (sym (append-nil come.answered)) ∙ come.goes_on [] left refl
+        ap (printed help limits) (sym (append-nil come.finished)) ∙ come.goes_on [] left refl
         ∙ ap (λ (t : List ℕ). come.text ++ t) (none_left help prompt number) ∙ append-nil come.text
 
     -- and no line of it ends the prompt
-    unended_is : (come : HasCome help limits input left prompt number old new) → HasNoQuit come.answered
-    unended_is come = ap quits (sym (append-nil come.answered)) ∙ come.unended [] left refl ∙ none_quits
+    unended_is : (come : HasCome help limits input left prompt number old new) → HasNoQuit come.finished
+    unended_is come = ap quits (sym (append-nil come.finished)) ∙ come.unended [] left refl ∙ none_quits
 
-    -- an input that is at its end is answered
+    -- an input that is at its end is finished
     end : HasCome help limits input left prompt number old new → left ≡ [] → Appends old new (printed help limits input)
     end come none =
-        let all : input ≡ come.answered = come.taken ∙ ap (λ (l : List ℕ). come.answered ++ l) none ∙ append-nil come.answered in
+        let all : input ≡ come.finished = come.taken ∙ ap (λ (l : List ℕ). come.finished ++ l) none ∙ append-nil come.finished in
         appends_as old new come.text (printed help limits input) (sym (ap (printed help limits) all ∙ text_is come)) come.out
 
     -- one whose next line ends the prompt
     end_by : HasCome help limits input left prompt number old new → is_quit (first_piece 10 left) ≡ true → Appends old new (printed help limits input)
     end_by come ends =
-        let none : answers help prompt number (lines_of left) ≡ [] =
-        next_answered help prompt number left
+        let none : responses help prompt number (lines_of left) ≡ [] =
+        next_responded help prompt number left
         ∙ ap (λ (b : Bool). if b then []
-        else (answer help prompt number (first_piece 10 left)).1
-        ++ answers help (answer help prompt number (first_piece 10 left)).0 (number + 1) (lines_of (drop_through 10 left))) ends in
+        else (response help prompt number (first_piece 10 left)).1
+        ++ responses help (response help prompt number (first_piece 10 left)).0 (number + 1) (lines_of (drop_through 10 left))) ends in
         appends_as old new come.text (printed help limits input)
         (sym (ap (printed help limits) come.taken ∙ come.goes_on left [] (sym (append-nil left)) ∙ ap (λ (t : List ℕ). come.text ++ t) none ∙ append-nil come.text))
         come.out
@@ -114,17 +114,17 @@ module _ (help : List ℕ) (limits : Limits) where
     cut : (fault : PromptFault) (last rest : List ℕ) → HasCome help limits input left prompt number old new → left ≡ last ++ rest →
         StopsAt last 10 → (fault ≡ ReadFault → All (λ b. b ≢ 10) last) → IsCutShort help limits fault input rest old new
     cut fault last rest come is stops within =
-        let out_is : come.text ≡ printed help limits come.answered ++ [] = sym (append-nil (printed help limits come.answered) ∙ text_is come) in
+        let out_is : come.text ≡ printed help limits come.finished ++ [] = sym (append-nil (printed help limits come.finished) ∙ text_is come) in
         record {
-          answered = come.answered;
+          finished = come.finished;
           last = last;
           part = [];
-          taken = come.taken ∙ ap (λ (l : List ℕ). come.answered ++ l) is;
+          taken = come.taken ∙ ap (λ (l : List ℕ). come.finished ++ l) is;
           one_line = stops;
-          out = appends_as old new come.text (printed help limits come.answered ++ []) out_is come.out;
+          out = appends_as old new come.text (printed help limits come.finished ++ []) out_is come.out;
           beginning =
-              starts_as (printed help limits (come.answered ++ last)) (printed help limits come.answered ++ []) (answers help prompt number (lines_of last))
-              (come.goes_on last rest is ∙ ap (λ (t : List ℕ). t ++ answers help prompt number (lines_of last)) out_is);
+              starts_as (printed help limits (come.finished ++ last)) (printed help limits come.finished ++ []) (responses help prompt number (lines_of last))
+              (come.goes_on last rest is ∙ ap (λ (t : List ℕ). t ++ responses help prompt number (lines_of last)) out_is);
           unwritten = λ other. refl;
           within_line = within;
           unended = unended_is come;
@@ -133,60 +133,60 @@ module _ (help : List ℕ) (limits : Limits) where
   -- a line was taken in
   module _ (input left : List ℕ) (prompt : Prompt) (number : ℕ) (old middle new : Option (List ℕ)) (text : List ℕ) where
     abbrev here : Prompt × List ℕ
-    here = answer help prompt number (first_piece 10 left)
+    here = response help prompt number (first_piece 10 left)
 
-    -- and its answer went out
+    -- and its response went out
     turn : left ≢ [] → is_quit (first_piece 10 left) ≡ false → (after : Prompt) → HasCome help limits input left prompt number old middle →
         text ≡ here.1 → after ≡ here.0 → Appends middle new text → HasCome help limits input (drop_through 10 left) after (number + 1) old new
     turn some on after come text_is_so after_is out =
         record {
-          answered = come.answered ++ take_through 10 left;
+          finished = come.finished ++ take_through 10 left;
           text = come.text ++ text;
           taken =
-              come.taken ∙ ap (λ (l : List ℕ). come.answered ++ l) (sym (taken_whole left))
-              ∙ sym (append_assoc come.answered (take_through 10 left) (drop_through 10 left));
+              come.taken ∙ ap (λ (l : List ℕ). come.finished ++ l) (sym (taken_whole left))
+              ∙ sym (append_assoc come.finished (take_through 10 left) (drop_through 10 left));
           out = Appends-trans old middle new come.text text come.out out;
           counted =
               let one : 0 < length (take_through 10 left) = some_taken left some in
-              omega (arith, length-append come.answered (take_through 10 left), come.counted);
+              omega (arith, length-append come.finished (take_through 10 left), come.counted);
           goes_on = λ more behind is.
-              ap (printed help limits) (append_assoc come.answered (take_through 10 left) more)
+              ap (printed help limits) (append_assoc come.finished (take_through 10 left) more)
               ∙ come.goes_on (take_through 10 left ++ more) behind
               (sym (taken_whole left) ∙ ap (λ (l : List ℕ). take_through 10 left ++ l) is ∙ sym (append_assoc (take_through 10 left) more behind))
               ∙ ap (λ (t : List ℕ). come.text ++ t) (next_first help prompt number left more behind is on)
-              ∙ ap₂ (λ (t : List ℕ) (p : Prompt). come.text ++ (t ++ answers help p (number + 1) (lines_of more))) (sym text_is_so) (sym after_is)
-              ∙ sym (append_assoc come.text text (answers help after (number + 1) (lines_of more)));
+              ∙ ap₂ (λ (t : List ℕ) (p : Prompt). come.text ++ (t ++ responses help p (number + 1) (lines_of more))) (sym text_is_so) (sym after_is)
+              ∙ sym (append_assoc come.text text (responses help after (number + 1) (lines_of more)));
           unended = λ more behind is.
-              ap quits (append_assoc come.answered (take_through 10 left) more)
+              ap quits (append_assoc come.finished (take_through 10 left) more)
               ∙ come.unended (take_through 10 left ++ more) behind
               (sym (taken_whole left) ∙ ap (λ (l : List ℕ). take_through 10 left ++ l) is ∙ sym (append_assoc (take_through 10 left) more behind))
               ∙ next_quits left more behind is on;
           unread_is = come.unread_is ∙ unread_on left on;
         }
 
-    -- and a beginning of its answer went out
+    -- and a beginning of its response went out
     cut_part : (count : ℕ) → is_quit (first_piece 10 left) ≡ false → HasCome help limits input left prompt number old middle → text ≡ here.1 → Appends middle new (take count text) →
         IsCutShort help limits WriteFault input (drop_through 10 left) old new
     cut_part count on come text_is_so out =
         let part = take count text in
-        let behind = drop count text ++ answers help here.0 (number + 1) (lines_of []) in
-        let so_far : come.text ≡ printed help limits come.answered = sym (text_is input left prompt number old middle come) in
+        let behind = drop count text ++ responses help here.0 (number + 1) (lines_of []) in
+        let so_far : come.text ≡ printed help limits come.finished = sym (text_is input left prompt number old middle come) in
         record {
-          answered = come.answered;
+          finished = come.finished;
           last = take_through 10 left;
           part = part;
-          taken = come.taken ∙ ap (λ (l : List ℕ). come.answered ++ l) (sym (taken_whole left));
+          taken = come.taken ∙ ap (λ (l : List ℕ). come.finished ++ l) (sym (taken_whole left));
           one_line = is_line left;
           out =
-              appends_as old new (come.text ++ part) (printed help limits come.answered ++ part) (ap (λ (t : List ℕ). t ++ part) so_far)
+              appends_as old new (come.text ++ part) (printed help limits come.finished ++ part) (ap (λ (t : List ℕ). t ++ part) so_far)
               (Appends-trans old middle new come.text part come.out out);
           beginning =
-              starts_as (printed help limits (come.answered ++ take_through 10 left)) (printed help limits come.answered ++ part) behind
+              starts_as (printed help limits (come.finished ++ take_through 10 left)) (printed help limits come.finished ++ part) behind
               (come.goes_on (take_through 10 left) (drop_through 10 left) (sym (taken_whole left))
-              ∙ ap (λ (l : List ℕ). come.text ++ answers help prompt number (lines_of l)) (sym (append-nil (take_through 10 left)))
+              ∙ ap (λ (l : List ℕ). come.text ++ responses help prompt number (lines_of l)) (sym (append-nil (take_through 10 left)))
               ∙ ap (λ (t : List ℕ). come.text ++ t) (next_first help prompt number left [] (drop_through 10 left) refl on)
-              ∙ ap (λ (t : List ℕ). come.text ++ (t ++ answers help here.0 (number + 1) (lines_of []))) (sym text_is_so ∙ sym (take-append-drop count text))
-              ∙ ap (λ (t : List ℕ). come.text ++ t) (append_assoc part (drop count text) (answers help here.0 (number + 1) (lines_of [])))
+              ∙ ap (λ (t : List ℕ). come.text ++ (t ++ responses help here.0 (number + 1) (lines_of []))) (sym text_is_so ∙ sym (take-append-drop count text))
+              ∙ ap (λ (t : List ℕ). come.text ++ t) (append_assoc part (drop count text) (responses help here.0 (number + 1) (lines_of [])))
               ∙ sym (append_assoc come.text part behind) ∙ ap (λ (t : List ℕ). (t ++ part) ++ behind) so_far);
           unwritten = λ other. absurd (other refl);
           within_line = λ is. cc;
@@ -195,26 +195,26 @@ module _ (help : List ℕ) (limits : Limits) where
 
   -- the same, where the reader's bytes are known
 
-  answer_is : (prompt : Prompt) (number : ℕ) (left line : List ℕ) → line ≡ kept KEPT (first_piece 10 left) →
-      answer help prompt number line ≡ answer help prompt number (first_piece 10 left)
-  answer_is prompt number left line is = ap (answer help prompt number) is ∙ kept_answer help prompt number (first_piece 10 left)
+  response_is : (prompt : Prompt) (number : ℕ) (left line : List ℕ) → line ≡ kept KEPT (first_piece 10 left) →
+      response help prompt number line ≡ response help prompt number (first_piece 10 left)
+  response_is prompt number left line is = ap (response help prompt number) is ∙ kept_response help prompt number (first_piece 10 left)
 
   quits_as : (left line : List ℕ) (b : Bool) → line ≡ kept KEPT (first_piece 10 left) → is_quit line ≡ b → is_quit (first_piece 10 left) ≡ b
   quits_as left line b is quits_so = sym (kept_quit (first_piece 10 left)) ∙ ap is_quit (sym is) ∙ quits_so
 
   pub turned : (input left rest : Option (List ℕ)) (prompt after : Prompt) (number : ℕ) (old middle new : Option (List ℕ)) (line text : List ℕ) →
       HasComeSo help limits input left prompt number old middle → IsNext KEPT left rest (Some line) → is_quit line ≡ false →
-      text ≡ (answer help prompt number line).1 → after ≡ (answer help prompt number line).0 → Appends middle new text → HasComeSo help limits input rest after (number + 1) old new
+      text ≡ (response help prompt number line).1 → after ≡ (response help prompt number line).0 → Appends middle new text → HasComeSo help limits input rest after (number + 1) old new
   turned None left rest prompt after number old middle new line text come next on told moved out = tt
   turned (Some input) None rest prompt after number old middle new line text come next on told moved out = absurd come
   turned (Some input) (Some left) rest prompt after number old middle new line text come next on told moved out =
       subst (λ (r : Option (List ℕ)). HasComeSo help limits (Some input) r after (number + 1) old new) (sym next.2)
       (turn input left prompt number old middle new text next.0 (quits_as left line false next.1 on) after come
-      (told ∙ ap (λ (a : Prompt × List ℕ). a.1) (answer_is prompt number left line next.1))
-      (moved ∙ ap (λ (a : Prompt × List ℕ). a.0) (answer_is prompt number left line next.1)) out)
+      (told ∙ ap (λ (a : Prompt × List ℕ). a.1) (response_is prompt number left line next.1))
+      (moved ∙ ap (λ (a : Prompt × List ℕ). a.0) (response_is prompt number left line next.1)) out)
 
   pub ended : (input left rest : Option (List ℕ)) (prompt : Prompt) (number : ℕ) (old new : Option (List ℕ)) →
-      HasComeSo help limits input left prompt number old new → IsNext KEPT left rest None → Answers help limits input old new
+      HasComeSo help limits input left prompt number old new → IsNext KEPT left rest None → Responds help limits input old new
   ended None left rest prompt number old new come next = tt
   ended (Some input) None rest prompt number old new come next = absurd come
   ended (Some input) (Some left) rest prompt number old new come next = end input left prompt number old new come next.0
@@ -230,7 +230,7 @@ module _ (help : List ℕ) (limits : Limits) where
   -- a line was taken in that ends the prompt
 
   pub ended_by : (input left rest : Option (List ℕ)) (prompt : Prompt) (number : ℕ) (old new : Option (List ℕ)) (line : List ℕ) →
-      HasComeSo help limits input left prompt number old new → IsNext KEPT left rest (Some line) → is_quit line ≡ true → Answers help limits input old new
+      HasComeSo help limits input left prompt number old new → IsNext KEPT left rest (Some line) → is_quit line ≡ true → Responds help limits input old new
   ended_by None left rest prompt number old new line come next ends = tt
   ended_by (Some input) None rest prompt number old new line come next ends = absurd come
   ended_by (Some input) (Some left) rest prompt number old new line come next ends =
@@ -281,13 +281,13 @@ module _ (help : List ℕ) (limits : Limits) where
 
   pub cut_writing : (input left rest : Option (List ℕ)) (prompt : Prompt) (number : ℕ) (old middle new : Option (List ℕ)) (line text : List ℕ) (count : ℕ) →
       HasComeSo help limits input left prompt number old middle → IsNext KEPT left rest (Some line) → is_quit line ≡ false →
-      text ≡ (answer help prompt number line).1 → Appends middle new (take count text) → EndsEarly help limits WriteFault input rest old new
+      text ≡ (response help prompt number line).1 → Appends middle new (take count text) → EndsEarly help limits WriteFault input rest old new
   cut_writing None left rest prompt number old middle new line text count come next on told out = tt
   cut_writing (Some input) None rest prompt number old middle new line text count come next on told out = absurd come
   cut_writing (Some input) (Some left) rest prompt number old middle new line text count come next on told out =
       subst (λ (r : Option (List ℕ)). EndsEarly help limits WriteFault (Some input) r old new) (sym next.2)
       (cut_part input left prompt number old middle new text count (quits_as left line false next.1 on) come
-      (told ∙ ap (λ (a : Prompt × List ℕ). a.1) (answer_is prompt number left line next.1)) out)
+      (told ∙ ap (λ (a : Prompt × List ℕ). a.1) (response_is prompt number left line next.1)) out)
 
   -- there are no numbers left
   pub many : (input left : Option (List ℕ)) (prompt : Prompt) (number : ℕ) (old new : Option (List ℕ)) →
@@ -295,7 +295,7 @@ module _ (help : List ℕ) (limits : Limits) where
   many None left prompt number old new come last = tt
   many (Some input) None prompt number old new come last = absurd come
   many (Some input) (Some left) prompt number old new come last =
-      let whole : length input ≡ length come.answered + length left = ap length come.taken ∙ length-append come.answered left in
+      let whole : length input ≡ length come.finished + length left = ap length come.taken ∙ length-append come.finished left in
       omega (arith, come.counted)
 
   -- nor numbers for the bytes of a line
@@ -304,7 +304,7 @@ module _ (help : List ℕ) (limits : Limits) where
   long_line None left prompt number old new come more = tt
   long_line (Some input) None prompt number old new come more = absurd come
   long_line (Some input) (Some left) prompt number old new come more =
-      let whole : length input ≡ length come.answered + length left = ap length come.taken ∙ length-append come.answered left in
+      let whole : length input ≡ length come.finished + length left = ap length come.taken ∙ length-append come.finished left in
       omega arith
 
 -- a read failed, and that is told
@@ -321,12 +321,12 @@ too_long inputs.TooLong is = refl
 too_long inputs.OutOfMemory is = absurd (cc)
 
 -- a script without faults has its report
-pub reports : ReportLaw → (help : List ℕ) (limits : Limits) (input old new : Option (List ℕ)) → Answers help limits input old new →
+pub reports : ReportLaw → (help : List ℕ) (limits : Limits) (input old new : Option (List ℕ)) → Responds help limits input old new →
     Reports limits input old new
-reports law help limits None old new answered = tt
-reports law help limits (Some input) old new answered = go (script_of input) (law help limits input)
+reports law help limits None old new finished = tt
+reports law help limits (Some input) old new finished = go (script_of input) (law help limits input)
   where
     go : (r : Result Script ScriptFault) → ((script : Script) → r ≡ Ok script → printed help limits input ≡ report_of limits script)
         → IfOk r (λ script. Appends old new (report_of limits script))
     go (Err fault) same = tt
-    go (Ok script) same = subst (λ (t : List ℕ). Appends old new t) (same script refl) answered
+    go (Ok script) same = subst (λ (t : List ℕ). Appends old new t) (same script refl) finished

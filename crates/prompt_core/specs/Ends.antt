@@ -9,7 +9,7 @@ use Rattle.run_core.specs.Prompts.{new_prompt}
 use Rattle.run_core.specs.Report.{report_of}
 use Rattle.grammar_core.specs.Scripts.{Script}
 use Rattle.grammar_core.specs.Words.{lines_of}
-use Rattle.prompt_core.specs.Answers.{answers, is_quit}
+use Rattle.prompt_core.specs.Responses.{responses, is_quit}
 use Rattle.stream_core.specs.Steps.{Steps}
 use Rattle.stream_core.specs.declared.stream_fault.InputFault.{InputFault}
 use Rattle.stream_core.specs.declared.stream_fault.InputFault.TheVariants as inputs
@@ -53,12 +53,12 @@ HasNoQuit input = list_any is_quit (lines_of input) ≡ false
 
 -- all that a prompt prints for an input
 abbrev pub printed : List ℕ → Limits → List ℕ → List ℕ
-printed help limits input = answers help (new_prompt limits) 1 (lines_of input)
+printed help limits input = responses help (new_prompt limits) 1 (lines_of input)
 
--- the answers to all lines of an input went out, and nothing else
-abbrev pub Answers : List ℕ → Limits → Option (List ℕ) → Option (List ℕ) → Option (List ℕ) → Type 0
-Answers help limits None old new = ⊤
-Answers help limits (Some input) old new = Appends old new (printed help limits input)
+-- the responses to all lines of an input went out, and nothing else
+abbrev pub Responds : List ℕ → Limits → Option (List ℕ) → Option (List ℕ) → Option (List ℕ) → Type 0
+Responds help limits None old new = ⊤
+Responds help limits (Some input) old new = Appends old new (printed help limits input)
 
 -- for a script without faults a prompt prints its report, byte for byte
 abbrev pub ReportLaw : Type 0
@@ -70,19 +70,19 @@ abbrev pub Reports : Limits → Option (List ℕ) → Option (List ℕ) → Opti
 Reports limits None old new = ⊤
 Reports limits (Some input) old new = IfOk (script_of input) (λ script. Appends old new (report_of limits script))
 
--- the answers to all lines that were taken in went out, except the last; a beginning of the last answer may have gone out, if a
+-- the responses to all lines that were taken in went out, except the last; a beginning of the last response may have gone out, if a
 -- write failed; if a read failed, no more than a beginning of the last line was taken in
 pub record IsCutShort (help : List ℕ) (limits : Limits) (fault : PromptFault) (input left : List ℕ) (old new : Option (List ℕ)) : Type 0 where
-  pub answered : List ℕ
+  pub finished : List ℕ
   pub last : List ℕ
   pub part : List ℕ
-  pub taken : input ≡ answered ++ (last ++ left)
+  pub taken : input ≡ finished ++ (last ++ left)
   pub one_line : StopsAt last 10
-  pub out : Appends old new (printed help limits answered ++ part)
-  pub beginning : StartsWith (printed help limits (answered ++ last)) (printed help limits answered ++ part)
+  pub out : Appends old new (printed help limits finished ++ part)
+  pub beginning : StartsWith (printed help limits (finished ++ last)) (printed help limits finished ++ part)
   pub unwritten : fault ≢ WriteFault → part ≡ []
   pub within_line : fault ≡ ReadFault → All (λ b. b ≢ 10) last
-  pub unended : HasNoQuit answered
+  pub unended : HasNoQuit finished
 
 -- how a prompt that ends early ends, if the reader's bytes are known
 abbrev pub EndsEarly : List ℕ → Limits → PromptFault → Option (List ℕ) → Option (List ℕ) → Option (List ℕ) → Option (List ℕ) → Type 0

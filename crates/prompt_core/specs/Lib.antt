@@ -1,4 +1,4 @@
 pub mod Sent
-pub mod Answers
+pub mod Responses
 pub mod Signs
 pub mod Ends

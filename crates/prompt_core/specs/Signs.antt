@@ -6,7 +6,7 @@ use Rattle.bench_core.specs.Limits.{Limits}
 use Rattle.bench_core.specs.Machine.{Machine, given}
 use Rattle.grammar_core.specs.Words.{lines_of}
 use Rattle.run_core.specs.Prompts.{Prompt, new_prompt}
-use Rattle.prompt_core.specs.Answers.{answer, is_quit}
+use Rattle.prompt_core.specs.Responses.{response, is_quit}
 
 -- the number that the next step will have
 abbrev pub next_step : Option Machine → ℕ
@@ -33,7 +33,7 @@ read_lines (line ∷ next ∷ lines) = line ∷ read_lines (next ∷ lines)
 unfoldable pub signs : List ℕ → Prompt → ℕ → List (List ℕ) → List ℕ
 signs help prompt number [] = sign prompt
 signs help prompt number (line ∷ lines) =
-    sign prompt ++ (if is_quit line then [] else signs help (answer help prompt number line).0 (number + 1) lines)
+    sign prompt ++ (if is_quit line then [] else signs help (response help prompt number line).0 (number + 1) lines)
 
 -- the signs for an input
 abbrev pub signs_of : List ℕ → Limits → List ℕ → List ℕ

@@ -1,12 +1,12 @@
 //! The fault of a line, as a prompt prints it.
 ghost use Rattle.std.specs.Prelude.{◌≡◌, ◌++◌, OnOk};
-ghost use Rattle.prompt_core.specs.Answers.{fault_line, kind_name};
+ghost use Rattle.prompt_core.specs.Responses.{fault_line, kind_name};
 
 use grammar_core::FaultKind;
 use payload_core::Oom;
 use std::alloc::Allocator;
 
-#[tactic(auto, unfolding(crate::specs::Answers::kind_name))]
+#[tactic(auto, unfolding(crate::specs::Responses::kind_name))]
 fn kind_name(kind: FaultKind) -> &'static str
     ensures { result.now ≡ kind_name kind }
 {
@@ -24,24 +24,24 @@ fn kind_name(kind: FaultKind) -> &'static str
     }
 }
 
-/// Appends the bytes of `text` to `answer`.
-pub fn put_text<A: Allocator>(answer: &mut Vec<u8, A>, text: &str) -> Result<(), Oom>
-    ensures { OnOk result (answer.new.items ≡ answer.old.items ++ text.now) }
+/// Appends the bytes of `text` to `response`.
+pub fn put_text<A: Allocator>(response: &mut Vec<u8, A>, text: &str) -> Result<(), Oom>
+    ensures { OnOk result (response.new.items ≡ response.old.items ++ text.now) }
 {
-    Ok(answer.extend_from_slice(text.as_bytes())?)
+    Ok(response.extend_from_slice(text.as_bytes())?)
 }
 
 /// Appends `line NUMBER: KIND` and a line feed.
-#[tactic(auto, unfolding(crate::specs::Answers::fault_line))]
+#[tactic(auto, unfolding(crate::specs::Responses::fault_line))]
 pub fn put_fault<A: Allocator + Copy>(
     alloc: A,
-    answer: &mut Vec<u8, A>,
+    response: &mut Vec<u8, A>,
     number: u64,
     kind: FaultKind,
 ) -> Result<(), Oom>
-    ensures { OnOk result (answer.new.items ≡ answer.old.items ++ fault_line number kind) }
+    ensures { OnOk result (response.new.items ≡ response.old.items ++ fault_line number kind) }
 {
     let name = kind_name(kind);
     let line = format!(in alloc; "line {number}: {name}\n")?;
-    put_text(answer, &line)
+    put_text(response, &line)
 }

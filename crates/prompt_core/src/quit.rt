@@ -1,7 +1,7 @@
 //! The line that ends a prompt.
 ghost use Rattle.std.specs.Prelude.{◌≡◌, length};
 ghost use Rattle.grammar_core.specs.Words.{words_of};
-ghost use Rattle.prompt_core.specs.Answers.{are_quits, is_quit};
+ghost use Rattle.prompt_core.specs.Responses.{are_quits, is_quit};
 
 use grammar_core::LONGEST_LINE;
 
@@ -24,7 +24,7 @@ fn word_count(line: &[u8]) -> usize
 }
 
 /// Whether the line's only word is `:quit`, and the line isn't too long. Asks for no memory.
-#[tactic(auto, unfolding(crate::specs::Answers::is_quit))]
+#[tactic(auto, unfolding(crate::specs::Responses::is_quit))]
 pub fn is_quit(line: &[u8]) -> bool
     ensures { result ≡ is_quit line.now }
 {

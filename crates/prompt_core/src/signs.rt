@@ -33,7 +33,7 @@ fn sign<'a, B: Allocator>(prompt: &Prompt<'a, B>, alloc: &'a B) -> Result<String
 
 /// If `is_shown`, writes the sign to `errors`, flushes `errors`, and gives `true`. Gives `false` if `is_shown` is
 /// `false`, memory for the sign was refused, or the write or the flush failed; in the last two cases any beginning of
-/// the sign may have been written. After a `false`, `answer_each` shows no further sign.
+/// the sign may have been written. After a `false`, `respond_each` shows no further sign.
 pub fn show_sign<'a, B: Allocator, E: Write>(
     prompt: &Prompt<'a, B>,
     alloc: &'a B,

@@ -2,15 +2,15 @@
 ghost use Rattle.std.specs.Prelude.{◌≡◌, IfErr, OnOk};
 ghost use Rattle.run_core.specs.Prompts.{new_prompt};
 ghost use Rattle.stream_core.specs.NextLines.{IsEndless};
-ghost use Rattle.prompt_core.specs.Ends.{Answers, EndsEarly, FailsAs, IsRead, Reports};
+ghost use Rattle.prompt_core.specs.Ends.{Responds, EndsEarly, FailsAs, IsRead, Reports};
 ghost use Rattle.prompt_core.specs.Signs.{Shows};
 ghost use Rattle.prompt_core.specs.declared.prompt_fault.PromptFault.TheVariants.{TooLong};
 
-use crate::answering::answer;
 use crate::laws::report_law;
 use crate::out::put_out;
 use crate::prompt_fault::PromptFault;
 use crate::quit::is_quit;
+use crate::responding::respond;
 use crate::setting::PromptSetting;
 use crate::signs::show_sign;
 use bench_core::Limits;
@@ -26,10 +26,10 @@ use stream_core::{Steps, next_line};
 /// How many bytes of a line are kept at most. A line of a script has fewer, so a line with this many bytes is too long.
 const KEPT: usize = LONGEST_LINE + 1;
 
-/// Answers each line before it reads the next, to the end of the input or a line that ends the prompt. The prompt must
-/// have taken no line yet. If the setting has signs, shows a sign on `errors` before it reads each line, until
+/// Responds to each line before it reads the next, to the end of the input or a line that ends the prompt. The prompt
+/// must have taken no line yet. If the setting has signs, shows a sign on `errors` before it reads each line, until
 /// `show_sign` fails once.
-fn answer_each<'a, B: Allocator, R: Read, W: Write, E: Write, L: Ledger>(
+fn respond_each<'a, B: Allocator, R: Read, W: Write, E: Write, L: Ledger>(
     prompt: &mut Prompt<'a, B>,
     setting: &PromptSetting<'a, '_, B>,
     reader: &mut R,
@@ -38,7 +38,7 @@ fn answer_each<'a, B: Allocator, R: Read, W: Write, E: Write, L: Ledger>(
     steps: &mut Steps<R, L>,
 ) -> Result<(), PromptFault>
     requires { prompt.old ≡ new_prompt prompt.old.limits }
-    ensures answers { OnOk result (Answers setting.now.help.now prompt.old.limits (R.remaining reader.old) (W.contents writer.old) (W.contents writer.new)) }
+    ensures responses { OnOk result (Responds setting.now.help.now prompt.old.limits (R.remaining reader.old) (W.contents writer.old) (W.contents writer.new)) }
     ensures read { OnOk result (IsRead (R.remaining reader.old) (R.remaining reader.new)) }
     ensures endless { result ≡ Err TooLong → IsEndless (R.remaining reader.old) }
     ensures early { IfErr result (λ fault. EndsEarly setting.now.help.now prompt.old.limits fault (R.remaining reader.old) (R.remaining reader.new)
@@ -57,17 +57,17 @@ fn answer_each<'a, B: Allocator, R: Read, W: Write, E: Write, L: Ledger>(
         if is_quit(line.as_slice()) {
             return Ok(());
         }
-        let answer = answer(prompt, setting, number, &line)?;
-        put_out(writer, &answer)?;
+        let response = respond(prompt, setting, number, &line)?;
+        put_out(writer, &response)?;
     }
     Err(PromptFault::TooLong)
 }
 
-/// Reads line by line, and answers each line before it reads the next, to the end of the input or a line that is
-/// `:quit`. A line that a script can have is carried out as in a script. The prompt's own lines are answered; `:help`
-/// prints the setting's `help`. Any other line is answered by its fault, and changes nothing. If the setting has signs,
-/// shows the number of the next step on `errors` before it reads a line, until `show_sign` fails once. `steps` counts
-/// the calls of `read`; callers that need neither the count nor signs use `step`.
+/// Reads line by line, and responds to each line before it reads the next, to the end of the input or a line that is
+/// `:quit`. A line that a script can have is carried out as in a script. So is each of the prompt's own lines; `:help`
+/// prints the setting's `help`. The response to any other line is its fault, and it changes nothing. If the setting has
+/// signs, shows the number of the next step on `errors` before it reads a line, until `show_sign` fails once. `steps`
+/// counts the calls of `read`; callers that need neither the count nor signs use `step`.
 pub fn step_counted<B: Allocator, R: Read, W: Write, E: Write, L: Ledger>(
     setting: &PromptSetting<'_, '_, B>,
     reader: &mut R,
@@ -75,7 +75,8 @@ pub fn step_counted<B: Allocator, R: Read, W: Write, E: Write, L: Ledger>(
     errors: &mut E,
     steps: &mut Steps<R, L>,
 ) -> Result<(), PromptFault>
-    ensures answers { OnOk result (Answers setting.now.help.now setting.now.limits (R.remaining reader.old) (W.contents writer.old) (W.contents writer.new)) }
+    ensures responses { OnOk result (Responds setting.now.help.now setting.now.limits (R.remaining reader.old) (W.contents writer.old)
+        (W.contents writer.new)) }
     ensures report { OnOk result (Reports setting.now.limits (R.remaining reader.old) (W.contents writer.old) (W.contents writer.new)) }
     ensures read { OnOk result (IsRead (R.remaining reader.old) (R.remaining reader.new)) }
     ensures endless { result ≡ Err TooLong → IsEndless (R.remaining reader.old) }
@@ -88,7 +89,7 @@ pub fn step_counted<B: Allocator, R: Read, W: Write, E: Write, L: Ledger>(
     // form: hands out what the proof cites
     report_law();
     let mut prompt = Prompt::new(setting.alloc, setting.limits);
-    let ended = answer_each(&mut prompt, setting, reader, writer, errors, steps);
+    let ended = respond_each(&mut prompt, setting, reader, writer, errors, steps);
     // form: drop before exit
     prompt.discard();
     ended
@@ -104,7 +105,8 @@ fn step_from<B: Allocator, R: Read, W: Write, L: Ledger>(
     requires name { blank.name ≡ L.name }
     requires parts { blank.parts ≡ L.parts }
     requires two { blank.parts ≡ 2 }
-    ensures answers { OnOk result (Answers setting.now.help.now setting.now.limits (R.remaining reader.old) (W.contents writer.old) (W.contents writer.new)) }
+    ensures responses { OnOk result (Responds setting.now.help.now setting.now.limits (R.remaining reader.old) (W.contents writer.old)
+        (W.contents writer.new)) }
     ensures report { OnOk result (Reports setting.now.limits (R.remaining reader.old) (W.contents writer.old) (W.contents writer.new)) }
     ensures read { OnOk result (IsRead (R.remaining reader.old) (R.remaining reader.new)) }
     ensures endless { result ≡ Err TooLong → IsEndless (R.remaining reader.old) }
@@ -124,7 +126,7 @@ pub fn step<B: Allocator, R: Read, W: Write>(
     limits: Limits,
     help: &str,
 ) -> Result<(), PromptFault>
-    ensures answers { OnOk result (Answers help.now limits (R.remaining reader.old) (W.contents writer.old) (W.contents writer.new)) }
+    ensures responses { OnOk result (Responds help.now limits (R.remaining reader.old) (W.contents writer.old) (W.contents writer.new)) }
     ensures report { OnOk result (Reports limits (R.remaining reader.old) (W.contents writer.old) (W.contents writer.new)) }
     ensures read { OnOk result (IsRead (R.remaining reader.old) (R.remaining reader.new)) }
     ensures endless { result ≡ Err TooLong → IsEndless (R.remaining reader.old) }

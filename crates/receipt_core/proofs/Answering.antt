@@ -6,15 +6,15 @@ use Rattle.bench_core.specs.declared.act.Act.{Act}
 use Rattle.bench_core.specs.Acts.{calls_of}
 use Rattle.bench_core.specs.Machine.{Event}
 use Rattle.receipt_core.specs.Receipts.{Receipt}
-use Rattle.receipt_core.specs.Agree.{Answered, lines_from}
+use Rattle.receipt_core.specs.Agree.{AreReceiptsOf, lines_from}
 
 -- the lines and the receipts that are left decide what was asked
 pub record Left {X : Type 0} (W : Type 0) (after : List Event) (actor last number index told : ℕ) (lines : List (ℕ × Act X)) (receipts : List Receipt) : Type 0 where
   pub number_is : number ≡ index
   pub within : told ≤ length receipts
-  pub decides : W ↔ Answered after last (lines_from (number + 1) actor (calls_of (drop index lines))) (drop told receipts)
+  pub decides : W ↔ AreReceiptsOf after last (lines_from (number + 1) actor (calls_of (drop index lines))) (drop told receipts)
 
-nothing_told : (after : List Event) (last : ℕ) (rs : List Receipt) → Answered after last [] rs → length rs ≡ 0
+nothing_told : (after : List Event) (last : ℕ) (rs : List Receipt) → AreReceiptsOf after last [] rs → length rs ≡ 0
 nothing_told after last [] a = refl
 nothing_told after last (r ∷ rs) a = absurd a
 
@@ -24,7 +24,7 @@ pub at_end : {X : Type 0} (W : Type 0) (after : List Event) (actor last number i
     (IsTrue (nat_eq told (length receipts)) → W) × (W → IsTrue (nat_eq told (length receipts)))
 at_end W after actor last number index told lines receipts l end =
     let none : drop index lines ≡ [] = drop_all index lines end in
-    let decides : W ↔ Answered after last [] (drop told receipts) = rw none at l.decides in (
+    let decides : W ↔ AreReceiptsOf after last [] (drop told receipts) = rw none at l.decides in (
       (λ t.
           let all : length receipts ≤ told = grind (arith, nat_tests, t) in
           decides.1 (rw (drop_all told receipts all) tt)),

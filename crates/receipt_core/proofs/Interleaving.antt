@@ -7,7 +7,7 @@ use Rattle.std.proofs.lemmas.Option.{get_or_from_slice_get, slice_get_within}
 use Rattle.bench_core.specs.Acts.{Action}
 use Rattle.bench_core.specs.Machine.{Event}
 use Rattle.receipt_core.specs.Receipts.{Receipt, event_of}
-use Rattle.receipt_core.specs.Agree.{Line, numbered, lines_of, named, Answered, AllAnswered, Agrees}
+use Rattle.receipt_core.specs.Agree.{Line, numbered, lines_of, named, AreReceiptsOf, AreAllReceipts, Agrees}
 use Rattle.receipt_core.specs.Interleaving.{told, all_told, part, AreParts, IsInterleaving}
 use Rattle.receipt_core.proofs.Counts.{counts, counts-all, counts-le, counts-tell}
 
@@ -55,11 +55,11 @@ drop-more (y ∷ ys) (suc a) d k e =
     rw next (drop-more ys a d (a + d) refl)
 
 -- receipts for lines of the actor stand in the actor's part of the events past `last`
-sub-answered : (after : List Event) (actor last : ℕ) (ls : List Line) (rs : List Receipt) → AllByRecursion (λ l. eqb l.actor actor ≡ true) ls → Answered after last ls rs → Sub (told rs) (part actor (drop last after))
-sub-answered after actor last [] [] own a = tt
-sub-answered after actor last [] (r ∷ rs) own a = absurd a
-sub-answered after actor last (l ∷ ls) [] own a = absurd a
-sub-answered after actor last (l ∷ ls) (r ∷ rs) own a =
+sub-receipts : (after : List Event) (actor last : ℕ) (ls : List Line) (rs : List Receipt) → AllByRecursion (λ l. eqb l.actor actor ≡ true) ls → AreReceiptsOf after last ls rs → Sub (told rs) (part actor (drop last after))
+sub-receipts after actor last [] [] own a = tt
+sub-receipts after actor last [] (r ∷ rs) own a = absurd a
+sub-receipts after actor last (l ∷ ls) [] own a = absurd a
+sub-receipts after actor last (l ∷ ls) (r ∷ rs) own a =
     let k : ℕ = named r - 1 in
     let e : Event = record { actor = l.actor; act = l.act; reply = r.reply } in
     let past = a.0.past in
@@ -67,7 +67,7 @@ sub-answered after actor last (l ∷ ls) (r ∷ rs) own a =
     let next : suc k ≡ named r = omega arith in
     let here : drop k after ≡ e ∷ drop (named r) after = drop-cons after k e inside ∙ rw (get_or_from_slice_get after k e e a.0.recorded, next) refl in
     let same : event_of r ≡ e = rw (a.0.actor, a.0.act) refl in
-    let more : Sub (told rs) (part actor (drop (named r) after)) = sub-answered after actor (named r) ls rs own.1 a.1 in
+    let more : Sub (told rs) (part actor (drop (named r) after)) = sub-receipts after actor (named r) ls rs own.1 a.1 in
     let P : List Event → Type 0 = λ w. Sub (told (r ∷ rs)) w in
     let now : Sub (told (r ∷ rs)) (part actor (drop k after)) = subst P (sym (ap (part actor) here ∙ own-part actor e (drop (named r) after) own.0)) (inl (same, more)) in
     sub-drop actor (told (r ∷ rs)) (k - last) (drop last after) (rw (drop-more after last (k - last) k (omega arith)) now)
@@ -80,11 +80,11 @@ filter-all : {X : Type 0} (t : X → Bool) (xs : List X) → AllByRecursion (λ 
 filter-all t [] = tt
 filter-all t (x ∷ xs) = filter-all_at t (t x) x (filter t xs) refl (filter-all t xs)
 
-answered-length : (after : List Event) (last : ℕ) (ls : List Line) (rs : List Receipt) → Answered after last ls rs → length (told rs) ≡ length ls
-answered-length after last [] [] a = refl
-answered-length after last [] (r ∷ rs) a = absurd a
-answered-length after last (l ∷ ls) [] a = absurd a
-answered-length after last (l ∷ ls) (r ∷ rs) a = let h = answered-length after (named r) ls rs a.1 in omega arith
+receipts-length : (after : List Event) (last : ℕ) (ls : List Line) (rs : List Receipt) → AreReceiptsOf after last ls rs → length (told rs) ≡ length ls
+receipts-length after last [] [] a = refl
+receipts-length after last [] (r ∷ rs) a = absurd a
+receipts-length after last (l ∷ ls) [] a = absurd a
+receipts-length after last (l ∷ ls) (r ∷ rs) a = let h = receipts-length after (named r) ls rs a.1 in omega arith
 
 abbrev total : List (List Event) → ℕ
 total [] = 0
@@ -95,15 +95,15 @@ abbrev AllSub : List Event → ℕ → List (List Event) → Type 0
 AllSub es actor [] = Unit {0}
 AllSub es actor (l ∷ lists) = Sub l (part actor es) × AllSub es (actor + 1) lists
 
-all-sub : (after : List Event) (start : ℕ) (lines : List (ℕ × Action)) (actor : ℕ) (lists : List (List Receipt)) → AllAnswered after start lines actor lists → AllSub (drop start after) actor (all_told lists)
+all-sub : (after : List Event) (start : ℕ) (lines : List (ℕ × Action)) (actor : ℕ) (lists : List (List Receipt)) → AreAllReceipts after start lines actor lists → AllSub (drop start after) actor (all_told lists)
 all-sub after start lines actor [] a = tt
 all-sub after start lines actor (rs ∷ lists) a =
-    (sub-answered after actor start (lines_of actor lines) rs (filter-all (λ l. eqb l.actor actor) (numbered 1 lines)) a.0, all-sub after start lines (actor + 1) lists a.1)
+    (sub-receipts after actor start (lines_of actor lines) rs (filter-all (λ l. eqb l.actor actor) (numbered 1 lines)) a.0, all-sub after start lines (actor + 1) lists a.1)
 
-all-length : (after : List Event) (start : ℕ) (lines : List (ℕ × Action)) (actor : ℕ) (lists : List (List Receipt)) → AllAnswered after start lines actor lists → total (all_told lists) ≡ counts (λ j. length (lines_of j lines)) actor (all_told lists)
+all-length : (after : List Event) (start : ℕ) (lines : List (ℕ × Action)) (actor : ℕ) (lists : List (List Receipt)) → AreAllReceipts after start lines actor lists → total (all_told lists) ≡ counts (λ j. length (lines_of j lines)) actor (all_told lists)
 all-length after start lines actor [] a = refl
 all-length after start lines actor (rs ∷ lists) a =
-    let h = answered-length after start (lines_of actor lines) rs a.0 in
+    let h = receipts-length after start (lines_of actor lines) rs a.0 in
     let t = all-length after start lines (actor + 1) lists a.1 in
     omega arith
 
@@ -138,8 +138,8 @@ pub agrees_interleave : (before after : List Event) (lines : List (ℕ × Action
 agrees_interleave before after lines lists a =
     let es : List Event = drop (length before) after in
     let ls : List (List Event) = all_told lists in
-    let sub = all-sub after (length before) lines 0 lists a.answered in
-    let asked : total ls ≡ counts (λ j. length (lines_of j lines)) 0 ls = all-length after (length before) lines 0 lists a.answered in
+    let sub = all-sub after (length before) lines 0 lists a.receipts in
+    let asked : total ls ≡ counts (λ j. length (lines_of j lines)) 0 ls = all-length after (length before) lines 0 lists a.receipts in
     let known : AllByRecursion (λ l. l.actor < length ls) (numbered 1 lines) = rw (told-length lists) (numbered-known 1 (length lists) lines a.known) in
     let whole = counts-all (λ (l : Line). l.actor) (numbered 1 lines) ls known in
     let count = numbered-length 1 lines in

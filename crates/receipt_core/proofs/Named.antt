@@ -9,7 +9,7 @@ use Rattle.std.proofs.lemmas.Bool.Decides.{eqb_tells}
 use Rattle.bench_core.specs.Acts.{Action}
 use Rattle.bench_core.specs.Machine.{Event}
 use Rattle.receipt_core.specs.Receipts.{Receipt}
-use Rattle.receipt_core.specs.Agree.{Line, named, places, lines_of, NoneTwice, Answered, AllAnswered}
+use Rattle.receipt_core.specs.Agree.{Line, named, places, lines_of, NoneTwice, AreReceiptsOf, AreAllReceipts}
 use Rattle.receipt_core.specs.Marks.{Fresh, Within}
 
 pub same-more : (xs ys : List Event) (i : ℕ) (x : Event) → slice_get xs i ≡ Some x → slice_get ys i ≡ Some x → take i xs ≡ take i ys → take (i + 1) xs ≡ take (i + 1) ys
@@ -77,16 +77,16 @@ all_append : (P : ℕ → Type 0) (xs ys : List ℕ) → AllByRecursion P xs →
 all_append P [] ys a b = b
 all_append P (x ∷ xs) ys a b = (a.0, all_append P xs ys a.1 b)
 
-answered-within : (after : List Event) (last : ℕ) (ls : List Line) (rs : List Receipt) → Answered after last ls rs → AllByRecursion (Within (length after)) (map named rs)
-answered-within after last [] [] a = tt
-answered-within after last [] (r ∷ rs) a = absurd a
-answered-within after last (l ∷ ls) [] a = absurd a
-answered-within after last (l ∷ ls) (r ∷ rs) a =
+receipts-within : (after : List Event) (last : ℕ) (ls : List Line) (rs : List Receipt) → AreReceiptsOf after last ls rs → AllByRecursion (Within (length after)) (map named rs)
+receipts-within after last [] [] a = tt
+receipts-within after last [] (r ∷ rs) a = absurd a
+receipts-within after last (l ∷ ls) [] a = absurd a
+receipts-within after last (l ∷ ls) (r ∷ rs) a =
     let inside = slice_get_within after (named r - 1) _ a.0.recorded in
     let past = a.0.past in
-    ((omega arith, omega arith), answered-within after (named r) ls rs a.1)
+    ((omega arith, omega arith), receipts-within after (named r) ls rs a.1)
 
-pub all_answered-within : (after : List Event) (start : ℕ) (lines : List (ℕ × Action)) (actor : ℕ) (lists : List (List Receipt)) → AllAnswered after start lines actor lists → AllByRecursion (Within (length after)) (places lists)
-all_answered-within after start lines actor [] a = tt
-all_answered-within after start lines actor (rs ∷ lists) a =
-    all_append (Within (length after)) (map named rs) (places lists) (answered-within after start (lines_of actor lines) rs a.0) (all_answered-within after start lines (actor + 1) lists a.1)
+pub all_receipts-within : (after : List Event) (start : ℕ) (lines : List (ℕ × Action)) (actor : ℕ) (lists : List (List Receipt)) → AreAllReceipts after start lines actor lists → AllByRecursion (Within (length after)) (places lists)
+all_receipts-within after start lines actor [] a = tt
+all_receipts-within after start lines actor (rs ∷ lists) a =
+    all_append (Within (length after)) (map named rs) (places lists) (receipts-within after start (lines_of actor lines) rs a.0) (all_receipts-within after start lines (actor + 1) lists a.1)

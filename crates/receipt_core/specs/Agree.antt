@@ -32,7 +32,7 @@ abbrev pub named : Receipt → ℕ
 named r = or_zero r.place
 
 -- the receipt is of the line, and matches the event at its place, which is past `last`
-pub record Answers (after : List Event) (last : ℕ) (l : Line) (r : Receipt) : Type 0 where
+pub record IsReceiptOf (after : List Event) (last : ℕ) (l : Line) (r : Receipt) : Type 0 where
   pub actor : r.actor ≡ l.actor
   pub line : r.line ≡ l.number
   pub act : r.act ≡ l.act
@@ -40,16 +40,16 @@ pub record Answers (after : List Event) (last : ℕ) (l : Line) (r : Receipt) : 
   pub recorded : slice_get after (named r - 1) ≡ Some (record { actor = l.actor; act = l.act; reply = r.reply })
 
 -- there is one receipt for each line, in order, at places that rise from `last`
-abbrev pub Answered : List Event → ℕ → List Line → List Receipt → Type 0
-Answered after last [] [] = Unit {0}
-Answered after last [] (r ∷ rs) = ⊥
-Answered after last (l ∷ ls) [] = ⊥
-Answered after last (l ∷ ls) (r ∷ rs) = Answers after last l r × Answered after (named r) ls rs
+abbrev pub AreReceiptsOf : List Event → ℕ → List Line → List Receipt → Type 0
+AreReceiptsOf after last [] [] = Unit {0}
+AreReceiptsOf after last [] (r ∷ rs) = ⊥
+AreReceiptsOf after last (l ∷ ls) [] = ⊥
+AreReceiptsOf after last (l ∷ ls) (r ∷ rs) = IsReceiptOf after last l r × AreReceiptsOf after (named r) ls rs
 
--- each list, of the actors from `actor` on, answers that actor's lines
-abbrev pub AllAnswered : List Event → ℕ → List (ℕ × Action) → ℕ → List (List Receipt) → Type 0
-AllAnswered after start lines actor [] = Unit {0}
-AllAnswered after start lines actor (rs ∷ lists) = Answered after start (lines_of actor lines) rs × AllAnswered after start lines (actor + 1) lists
+-- each list, of the actors from `actor` on, is that of the actor's lines
+abbrev pub AreAllReceipts : List Event → ℕ → List (ℕ × Action) → ℕ → List (List Receipt) → Type 0
+AreAllReceipts after start lines actor [] = Unit {0}
+AreAllReceipts after start lines actor (rs ∷ lists) = AreReceiptsOf after start (lines_of actor lines) rs × AreAllReceipts after start lines (actor + 1) lists
 
 -- the places that the receipts name, list by list
 abbrev pub places : List (List Receipt) → List ℕ
@@ -66,5 +66,5 @@ pub record Agrees (before after : List Event) (lines : List (ℕ × Action)) (li
   pub prefix : take (length before) after ≡ before
   pub longer : length after ≡ length before + length lines
   pub known : AllByRecursion (λ (l : ℕ × Action). l.0 < length lists) lines
-  pub answered : AllAnswered after (length before) lines 0 lists
+  pub receipts : AreAllReceipts after (length before) lines 0 lists
   pub once : NoneTwice (places lists)

@@ -2,7 +2,7 @@
 ghost use Rattle.std.specs.Prelude.{◌≡◌, ◌↔◌, ◌<◌, IsTrue, IfOk, length, take, map};
 ghost use Rattle.std.specs.List.{AllByRecursion};
 ghost use Rattle.bench_core.specs.Acts.{plain_act, calls_of};
-ghost use Rattle.receipt_core.specs.Agree.{Answers, Answered, AllAnswered, Agrees, lines_of, places};
+ghost use Rattle.receipt_core.specs.Agree.{IsReceiptOf, AreReceiptsOf, AreAllReceipts, Agrees, lines_of, places};
 ghost use Rattle.receipt_core.specs.Marks.{Within};
 
 use crate::places::{named_place, none_twice};
@@ -20,7 +20,7 @@ fn same_event<A: Allocator>(one: &Event<A>, other: &Event<A>) -> bool
 
 /// Whether the receipt is that of the line `number`, in which `actor` asks `act`. The receipt must also name a place
 /// past `last`, and the history `after` must have there the event that the receipt tells of.
-fn answers<'a, B: Allocator>(
+fn is_receipt_of<'a, B: Allocator>(
     after: &History<'a, B>,
     last: u64,
     number: u64,
@@ -28,7 +28,7 @@ fn answers<'a, B: Allocator>(
     act: &Act<&'a B>,
     receipt: &Receipt<&'a B>,
 ) -> bool
-    ensures { IsTrue result ↔ Answers after.now last (record { number = number; actor = actor; act = plain_act act.now }) receipt.now }
+    ensures { IsTrue result ↔ IsReceiptOf after.now last (record { number = number; actor = actor; act = plain_act act.now }) receipt.now }
 {
     let place = named_place(receipt);
     if place <= last {
@@ -46,16 +46,16 @@ fn answers<'a, B: Allocator>(
         && event.reply.same(receipt.reply)
 }
 
-/// Whether `receipts` answers the actor's lines: the list has a receipt for each line and no other, in the order of the
-/// lines, at rising places past `start`, and `after` has at each place the event that the receipt tells of.
-fn are_answered<'a, B: Allocator>(
+/// Whether the list has a receipt for each of the actor's lines and no other, in the order of the lines, at rising
+/// places past `start`, and `after` has at each place the event that the receipt tells of.
+fn are_receipts_of<'a, B: Allocator>(
     after: &History<'a, B>,
     start: u64,
     lines: &[(u16, Act<&'a B>)],
     actor: usize,
     receipts: &[Receipt<&'a B>],
 ) -> bool
-    ensures { IsTrue result ↔ Answered after.now start (lines_of actor (calls_of lines.now)) receipts.now }
+    ensures { IsTrue result ↔ AreReceiptsOf after.now start (lines_of actor (calls_of lines.now)) receipts.now }
 {
     let mut last = start;
     // form: counted by hand, as the proof names both counts
@@ -69,7 +69,7 @@ fn are_answered<'a, B: Allocator>(
         let Some(receipt) = receipts.get(told) else {
             return false;
         };
-        if !answers(after, last, number, *line_actor, act, receipt) {
+        if !is_receipt_of(after, last, number, *line_actor, act, receipt) {
             return false;
         }
         last = named_place(receipt);
@@ -78,21 +78,21 @@ fn are_answered<'a, B: Allocator>(
     told == receipts.len()
 }
 
-/// Whether each list of receipts answers the lines of its actor (see `are_answered`). Actors are numbered as the lists,
-/// from 0.
-fn are_all_answered<'a, B: Allocator>(
+/// Whether each list of receipts is that of its actor's lines (see `are_receipts_of`). Actors are numbered as the
+/// lists, from 0.
+fn are_all_receipts<'a, B: Allocator>(
     after: &History<'a, B>,
     start: u64,
     lines: &[(u16, Act<&'a B>)],
     lists: &[Vec<Receipt<&'a B>, &'a B>],
 ) -> bool
-    ensures answered { IsTrue result ↔ AllAnswered after.now start (calls_of lines.now) 0 (map (λ v. v.items) lists.now) }
+    ensures receipts { IsTrue result ↔ AreAllReceipts after.now start (calls_of lines.now) 0 (map (λ v. v.items) lists.now) }
     ensures within { IsTrue result → AllByRecursion (Within (length after.now)) (places (map (λ v. v.items) lists.now)) }
 {
     // form: counted by hand, as the proof names the count
     let mut actor = 0;
     for list in lists {
-        if !are_answered(after, start, lines, actor, list) {
+        if !are_receipts_of(after, start, lines, actor, list) {
             return false;
         }
         actor += 1;
@@ -144,7 +144,7 @@ pub(crate) fn account<'a, B: Allocator>(
     if !are_known(lines, receipts.len())
         || !begins(before, after)
         || after.len() - before.len() != lines.len()
-        || !are_all_answered(after, before.len() as u64, lines, receipts)
+        || !are_all_receipts(after, before.len() as u64, lines, receipts)
     {
         return Ok(false);
     }

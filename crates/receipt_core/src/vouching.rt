@@ -188,10 +188,10 @@ pub fn vouched<'a, B: Allocator>(
             return Err(fault.of_race());
         }
     };
-    let answer = vouch(&before, bench, actors, &lines, &receipts, alloc);
+    let end = vouch(&before, bench, actors, &lines, &receipts, alloc);
     drop(before);
     drop(lines);
-    match answer {
+    match end {
         Ok(()) => Ok(receipts),
         Err(fault) => {
             discard(receipts);

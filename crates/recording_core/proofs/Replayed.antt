@@ -15,7 +15,7 @@ use Rattle.event_core.specs.Format.{list, whole, event_json}
 use Rattle.recording_core.specs.Format.{limits_json, session}
 use Rattle.recording_core.specs.Decoding.{Parts, version_of, parts_at, acts_of}
 use Rattle.recording_core.specs.Versions.{IsVersion, tells}
-use Rattle.recording_core.specs.Sessions.{with_event, first_bench, Reads, Faults, data_of, HasHead, LeadsTo, HasFault, IsRefused, IsJson, Answers, Refuses, IsSession}
+use Rattle.recording_core.specs.Sessions.{with_event, first_bench, Reads, Faults, data_of, HasHead, LeadsTo, HasFault, IsRefused, IsJson, LoadsAs, Refuses, IsSession}
 use Rattle.recording_core.specs.Drafts.{head}
 use Rattle.recording_core.proofs.Heads.{head_version, head_parts}
 use Rattle.recording_core.proofs.Versions.{event_told}
@@ -30,7 +30,7 @@ items_of-data_of : (ds : Items) → items_of (data_of ds) ≡ ds
 items_of-data_of no_items = refl
 items_of-data_of (item d ds) = ap (item d) (items_of-data_of ds)
 
--- from the head and the loop over the acts to the answer
+-- from the head and the loop over the acts to the result
 
 pub has_head : (d : Data) (v : ℕ) (p : Parts) → version_of (head d) ≡ Some v → IsVersion v → parts_at (head d) ≡ Some p → HasHead d v p
 has_head d v p is_version known is = record { version = sym (head_version d) ∙ is_version; known = known; parts = sym (head_parts d) ∙ is }
@@ -123,11 +123,11 @@ session_of bytes d m json (v, p, has, h) =
       },
     )
 
-pub is_session : (bytes : List ℕ) (d : Data) (r : Result Machine SessionFault) → IsJson bytes d → Answers d r → IfOk r (IsSession bytes)
+pub is_session : (bytes : List ℕ) (d : Data) (r : Result Machine SessionFault) → IsJson bytes d → LoadsAs d r → IfOk r (IsSession bytes)
 is_session bytes d (Ok m) json h = session_of bytes d m json h
 is_session bytes d (Err e) json h = tt
 
-pub is_refused : (bytes : List ℕ) (d : Data) (r : Result Machine SessionFault) → IsJson bytes d → Answers d r → IfErr r (Refuses bytes)
+pub is_refused : (bytes : List ℕ) (d : Data) (r : Result Machine SessionFault) → IsJson bytes d → LoadsAs d r → IfErr r (Refuses bytes)
 is_refused bytes d (Ok m) json h = tt
 is_refused bytes d (Err NotJson) json h = absurd h
 is_refused bytes d (Err OutOfMemory) json h = tt

@@ -1,4 +1,4 @@
--- What a load answers, and what a saved text is.
+-- What a load gives, and what a saved text is.
 use Rattle.std.specs.Prelude.{◌≡◌, ◌⊎◌, ℕ, ◌+◌, Bool, true, false, List, [], ◌∷◌, Some, None, Result, Ok, Err, IsUtf8}
 use Rattle.std.specs.List.{AllByRecursion}
 use Rattle.serde_json.specs.Data.{Data, Items, no_items, item}
@@ -89,9 +89,10 @@ IsRefused d (BadShape k) = ((k ≡ 0) × IsMisshapen d) ⊎ HasFault d (BadShape
 IsRefused d (Disagrees k) = HasFault d (Disagrees k)
 IsRefused d OutOfMemory = Unit {0}
 
-abbrev pub Answers : Data → Result Machine SessionFault → Type 0
-Answers d (Ok m) = LeadsTo d m
-Answers d (Err fault) = IsRefused d fault
+-- what a load may give for a value: a machine to which the value leads, or one of its faults
+abbrev pub LoadsAs : Data → Result Machine SessionFault → Type 0
+LoadsAs d (Ok m) = LeadsTo d m
+LoadsAs d (Err fault) = IsRefused d fault
 
 -- why the text is refused: each fault comes only in its own case, and only if no earlier one does
 abbrev pub Refuses : List ℕ → SessionFault → Type 0

@@ -24,7 +24,7 @@ pub struct Acted<A: Allocator> {
 }
 
 /// Makes an act on the bench, and gives the reply. The reply `OutOfMemory` comes back as an error.
-pub fn answer<'a, B: Allocator>(
+pub fn reply_of<'a, B: Allocator>(
     bench: &mut Bench<'a, B>,
     actor: u16,
     act: &Act<&'a B>,
@@ -67,7 +67,7 @@ fn come_to<'a, B: Allocator>(
 {
     // form: hands out what the bench keeps
     bench.bench_law();
-    let reply = answer(bench, actor, act)?;
+    let reply = reply_of(bench, actor, act)?;
     let change = match reply {
         Reply::Taken(number) => step_diff(bench, number, alloc)?,
         Reply::Undone(_) => turned(undone),
@@ -159,7 +159,7 @@ fn put_come_to<'a, B: Allocator>(
 {
     // form: hands out what the bench keeps
     bench.bench_law();
-    let reply = answer(bench, actor, act)?;
+    let reply = reply_of(bench, actor, act)?;
     match reply {
         Reply::Taken(number) => put_step_taken(bench, text, number, alloc),
         Reply::Undone(number) => put_step_undone(text, bench.names(), number, undone),

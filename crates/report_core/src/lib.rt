@@ -26,7 +26,7 @@ mod step_diffs;
 mod step_text;
 mod unwinding;
 
-pub use acting::{Acted, act, answer, ask, put_acted};
+pub use acting::{Acted, act, ask, put_acted, reply_of};
 pub use dots_text::{clock_of, cloud_of, put_dots};
 pub use moved::node_of_step;
 pub use rows::{name_at, put_lines, put_online, put_rows};

@@ -11,7 +11,7 @@ ghost use Rattle.report_core.specs.MovedRows.{after_undos, no_moves, with_undone
 ghost use Rattle.report_core.specs.ActTexts.{after_act};
 ghost use Rattle.report_core.specs.Shown.{node_of_step};
 
-use crate::acting::answer;
+use crate::acting::reply_of;
 use crate::step_diffs::step_diff;
 use bench_core::laws::unwind_law;
 use bench_core::{Act, Bench};
@@ -118,10 +118,10 @@ fn undo<'a, B: Allocator>(bench: &mut Bench<'a, B>, actor: u16, number: u64) -> 
     ensures { OnOk result (bench.new ≡ after_act bench.old actor (Undo number)) }
 {
     let act = Act::Undo(number);
-    let answered = answer(bench, actor, &act);
+    let reply = reply_of(bench, actor, &act);
     // form: drop before exit
     drop(act);
-    answered.map(drop)
+    reply.map(drop)
 }
 
 /// Undoes a step, and adds to `moved` what the undo changed in the online list of the step's node; gives `moved` back.

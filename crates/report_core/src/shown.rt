@@ -52,8 +52,8 @@ pub fn show<'a, B: Allocator>(
     ensures { OnOk result (string_bytes text.new ≡ string_bytes text.old ++ online_text bench.now.names node (rows_at bench.now node)) }
 {
     let rows = rows_at(bench, node, alloc)?;
-    let answer = put_online(text, bench.names(), node, &rows);
+    let put = put_online(text, bench.names(), node, &rows);
     // form: drop before exit
     drop(rows);
-    answer
+    put
 }

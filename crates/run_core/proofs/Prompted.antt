@@ -15,7 +15,7 @@ use Rattle.grammar_core.specs.Words.{lines_of, words_of, is_text}
 use Rattle.grammar_core.specs.Grammar.{Reading, opening, with_consoles, with_each, keyword_of, command_by, with_words_by, with_words, with_line, with_lines, at_line}
 use Rattle.grammar_core.specs.Grammar.{finished, script_of}
 use Rattle.run_core.specs.Report.{after_command, after_commands, command_text, commands_of, commands_text, played, report_of}
-use Rattle.run_core.specs.Prompts.{Prompt, PromptLaw, all_taken, answered, new_prompt, taken}
+use Rattle.run_core.specs.Prompts.{Prompt, PromptLaw, all_taken, carried_out, new_prompt, taken}
 
 -- commands and more commands
 
@@ -56,15 +56,15 @@ so_far limits cast lines =
 abbrev Begins : Option Cast → List Line → Type 0
 Begins cast lines = cast ≡ None → lines ≡ []
 
--- the answer to what was read of a line is the prompt after so much more was read
+-- what is carried out of a line leaves the prompt after so much more was read
 abbrev Follows : Limits → Option Cast → List Line → Result Reading FaultKind → Reading → Type 0
 Follows limits cast lines read next =
-    (answered (so_far limits cast lines).0 (so_far limits cast lines).1 read ≡ Ok (so_far limits next.cast next.lines)) ×
+    (carried_out (so_far limits cast lines).0 (so_far limits cast lines).1 read ≡ Ok (so_far limits next.cast next.lines)) ×
     Begins next.cast next.lines
 
 -- a line that changes nothing
 idle : (limits : Limits) (cast : Option Cast) (lines : List Line) →
-    answered (so_far limits cast lines).0 (so_far limits cast lines).1 (Ok (record { cast = cast; lines = [] })) ≡ Ok (so_far limits cast lines)
+    carried_out (so_far limits cast lines).0 (so_far limits cast lines).1 (Ok (record { cast = cast; lines = [] })) ≡ Ok (so_far limits cast lines)
 unfolding after_commands commands_text
 idle limits None lines = refl
 idle limits (Some cast) lines =
@@ -79,7 +79,7 @@ quiet limits reading next begins same =
 
 -- the nodes are named
 begun : (limits : Limits) (cast : Cast) (lines : List Line) →
-    answered (so_far limits None lines).0 (so_far limits None lines).1 (Ok (record { cast = Some cast; lines = [] })) ≡ Ok (so_far limits (Some cast) [])
+    carried_out (so_far limits None lines).0 (so_far limits None lines).1 (Ok (record { cast = Some cast; lines = [] })) ≡ Ok (so_far limits (Some cast) [])
 unfolding played report_of after_commands commands_text
 begun limits cast lines = refl
 
@@ -108,7 +108,7 @@ same_nodes cast next names is =
         let whole : record { nodes = cast.nodes; consoles = consoles } ≡ next = cc in sym (ap (λ (c : Cast). c.nodes) whole)
 
 joined : (limits : Limits) (cast more : Cast) (lines : List Line) → more.nodes ≡ cast.nodes →
-    answered (so_far limits (Some cast) lines).0 (so_far limits (Some cast) lines).1 (Ok (record { cast = Some more; lines = [] }))
+    carried_out (so_far limits (Some cast) lines).0 (so_far limits (Some cast) lines).1 (Ok (record { cast = Some more; lines = [] }))
     ≡ Ok (so_far limits (Some more) lines)
 unfolding played report_of after_commands commands_text
 joined limits cast more lines same =
@@ -132,7 +132,7 @@ joins limits cast lines (Ok more) next same is =
 
 -- a command
 done : (limits : Limits) (cast : Cast) (lines : List Line) (number : ℕ) (command : Command) →
-    answered (so_far limits (Some cast) lines).0 (so_far limits (Some cast) lines).1
+    carried_out (so_far limits (Some cast) lines).0 (so_far limits (Some cast) lines).1
     (Ok (record { cast = Some cast; lines = record { number = 0; command = command } ∷ [] }))
     ≡ Ok (so_far limits (Some cast) (lines ++ record { number = number; command = command } ∷ []))
 unfolding played report_of

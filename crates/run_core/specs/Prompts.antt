@@ -51,14 +51,14 @@ asked limits cast (Some machine) text commands =
     (record { limits = limits; cast = cast; machine = Some (after_commands machine commands) }, text ++ commands_text machine commands)
 
 -- the prompt and the text after what was read of a line; or the line's fault
-abbrev pub answered : Prompt → List ℕ → Result Reading FaultKind → Result (Prompt × List ℕ) FaultKind
-answered prompt text read =
+abbrev pub carried_out : Prompt → List ℕ → Result Reading FaultKind → Result (Prompt × List ℕ) FaultKind
+carried_out prompt text read =
     read >>= λ reading.
     Ok (asked prompt.limits reading.cast (opened prompt.limits reading.cast prompt.machine) text (commands_of reading.lines))
 
 -- a line is read as a script's line is, with what was named before it
 unfoldable pub taken : Prompt → List ℕ → List ℕ → Result (Prompt × List ℕ) FaultKind
-taken prompt text line = answered prompt text (with_line (record { cast = prompt.cast; lines = [] }) 0 line)
+taken prompt text line = carried_out prompt text (with_line (record { cast = prompt.cast; lines = [] }) 0 line)
 
 -- lines taken in order, if none has a fault; or the first fault
 unfoldable pub all_taken : Prompt → List ℕ → List (List ℕ) → Result (Prompt × List ℕ) FaultKind

@@ -118,7 +118,7 @@ impl<'a, B: Allocator> Prompt<'a, B> {
     /// `OutOfMemory` changes nothing.
     #[tactic(auto, unfolding(crate::specs::Prompts::taken))]
     pub fn take(&mut self, text: &mut String<&'a B>, line: &[u8]) -> Result<(), FaultKind>
-        ensures answer { Gives (λ _. (self.new, string_bytes text.new)) result (taken self.old (string_bytes text.old) line.now) }
+        ensures taken { Gives (λ _. (self.new, string_bytes text.new)) result (taken self.old (string_bytes text.old) line.now) }
         ensures kept { IfErr result (λ kind. kind ≢ OutOfMemory → self.new ≡ self.old) }
         ensures unprinted { IfErr result (λ kind. kind ≢ OutOfMemory → string_bytes text.new ≡ string_bytes text.old) }
     {
@@ -128,11 +128,11 @@ impl<'a, B: Allocator> Prompt<'a, B> {
             lines: Vec::new(self.alloc),
         };
         // 0: the number of the line isn't used
-        let answer = read_line(self.alloc, &mut reading, 0, line);
+        let read = read_line(self.alloc, &mut reading, 0, line);
         let Reading { cast, lines } = reading;
         // form: an assignment would drop the old value field by field
         drop(replace(&mut self.cast, cast));
-        match answer {
+        match read {
             Ok(()) => {
                 let obeyed = self.obey(text, &lines);
                 // form: drop before exit

@@ -11,7 +11,7 @@ use Rattle.recording_core.specs.Format.{session}
 use Rattle.recording_core.specs.Decoding.{Parts, version_of, parts_at, acts_of}
 use Rattle.recording_core.specs.Versions.{event_in}
 use Rattle.event_core.specs.Told.{IsTold}
-use Rattle.recording_core.specs.Sessions.{with_event, RecordsNext, Reads, Steps, Faults, data_of, first_bench, HasHead, IsJson, Answers, IsSaved, ComesBack}
+use Rattle.recording_core.specs.Sessions.{with_event, RecordsNext, Reads, Steps, Faults, data_of, first_bench, HasHead, IsJson, LoadsAs, IsSaved, ComesBack}
 use Rattle.session_core.proofs.Again.{event_in_again, parts, parts_again}
 use Rattle.recording_core.proofs.Replayed.{data_of-items_of}
 
@@ -90,7 +90,7 @@ module _ (bytes : List ℕ) (m : Machine) (saved : IsSaved bytes m) (d : Data) (
       subst (λ (n : ℕ). X n (opening_machine m.names m.limits) (map event_json m.state.history)) (version_two v has.version)
       (at_parts (X v) p has.parts h)
 
-  pub comes_back : (r : Result Machine SessionFault) → Answers d r → ComesBack m r
+  pub comes_back : (r : Result Machine SessionFault) → LoadsAs d r → ComesBack m r
   comes_back (Ok loaded) (v, p, has, h) = one_end 2 (map event_json m.state.history) (opening_machine m.names m.limits) m loaded reads
       (of_second (λ v old ds. Reads v old ds loaded) v p has h)
   comes_back (Err NotJson) h = absurd h

@@ -6,7 +6,7 @@ use Rattle.bench_core.specs.Machine.{Event, Machine}
 use Rattle.recording_core.specs.Decoding.{Parts, acts_of}
 use Rattle.recording_core.specs.Drafts.{AreRead}
 use Rattle.recording_core.specs.Recordings.{IsRecording}
-use Rattle.recording_core.specs.Sessions.{Answers, Faults, IsSaved, IsSession, Reads, Refuses, data_of, first_bench}
+use Rattle.recording_core.specs.Sessions.{LoadsAs, Faults, IsSaved, IsSession, Reads, Refuses, data_of, first_bench}
 use Rattle.recording_core.specs.declared.session_fault.SessionFault.{SessionFault}
 use Rattle.recording_core.specs.declared.session_fault.SessionFault.TheVariants.{NotJson, BadShape, BadVersion, Disagrees, OutOfMemory}
 use Rattle.session_core.proofs.ComesBack.{comes_back}
@@ -23,7 +23,7 @@ refused_back bytes m saved (Disagrees k) (d, json, h) = comes_back bytes m saved
 module _ (bytes : List ℕ) (v : ℕ) (p : Parts) (events : List Event) (is_cut : Bool) (r : IsRecording bytes v p events is_cut) where
   -- the calls, asked of the bench that the head opens
   module _ (m : Machine) (reads : (ds : List Data) → AreRead ds events is_cut → Reads v (first_bench p) ds m) where
-    leads : Answers r.value (Ok m)
+    leads : LoadsAs r.value (Ok m)
     leads = gives r.value v p r.tells.head m (reads (data_of (acts_of r.value)) r.tells.acts)
 
     pub session_of : IsSession bytes m
@@ -33,7 +33,7 @@ module _ (bytes : List ℕ) (v : ℕ) (p : Parts) (events : List Event) (is_cut 
     saved_back old saved = comes_back bytes old saved r.value r.json (Ok m) leads
 
   module _ (fault : SessionFault) (faults : (ds : List Data) → AreRead ds events is_cut → Faults v 1 (first_bench p) ds fault) where
-    stops : Answers r.value (Err fault)
+    stops : LoadsAs r.value (Err fault)
     stops = refused r.value v p r.tells.head fault (faults (data_of (acts_of r.value)) r.tells.acts)
 
     pub refuses : Refuses bytes fault

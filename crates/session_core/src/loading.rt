@@ -21,11 +21,11 @@ fn records_next<'a, B: Allocator>(
     ensures { IfOk result (Asked event.now bench.old bench.new) }
 {
     let before = bench.history().len();
-    let answer = bench.act(event.actor, &event.act);
-    if answer.same(Reply::Refused(Fault::OutOfMemory)) {
+    let reply = bench.act(event.actor, &event.act);
+    if reply.same(Reply::Refused(Fault::OutOfMemory)) {
         return Err(Oom);
     }
-    if answer.same(event.reply) {
+    if reply.same(event.reply) {
         return Ok(before < bench.history().len());
     }
     Ok(false)

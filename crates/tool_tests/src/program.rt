@@ -266,7 +266,7 @@ const LOGGED_SCRIPT: &str =
     "nodes a b\na join 0 r alice phone\na broadcast\nb deliver a 1\nshow b\n";
 
 /// Cases: words, an input, and what the program prints for it.
-const ANSWERED: &[(&[&str], &str, &str)] = &[
+const PRINTED: &[(&[&str], &str, &str)] = &[
     (&["play"], UNWOUND, UNWOUND_REPORT),
     (&["play", "--as", "session"], JOINED, SESSION),
     (&["race"], JOINED, REPORT),
@@ -291,10 +291,10 @@ fn refused<T: Threads + Wait + Sync + Abort>(
     rt: &T,
     global: Global,
     heap: &Refusing<Global>,
-    answered: (&[&str], &str, &str),
+    case: (&[&str], &str, &str),
     number: u64,
 ) -> (bool, bool) {
-    let (words, input, printed) = answered;
+    let (words, input, printed) = case;
     heap.refuse_only(number);
     let mut reader = FakeReader::ending(input.as_bytes());
     let (status, writer, errors) = ended(global, heap, words, &mut reader, [10_000, 1000], rt);
@@ -318,12 +318,12 @@ fn early_ends<T: Threads + Wait + Sync + Abort>(
     rt: &T,
     global: Global,
     heap: &Refusing<Global>,
-    answered: (&[&str], &str, &str),
+    case: (&[&str], &str, &str),
 ) -> u64 {
     // form: saturating spares a requirement
     let mut ended_early = 0u64;
     for number in 1..10_000 {
-        let (is_met, is_early) = refused(rt, global, heap, answered, number);
+        let (is_met, is_early) = refused(rt, global, heap, case, number);
         ended_early = ended_early.saturating_add(u64::from(is_early));
         if !is_met {
             return ended_early;
@@ -335,8 +335,8 @@ fn early_ends<T: Threads + Wait + Sync + Abort>(
 #[test]
 fn refused_memory_prints_nothing(rt: HostRuntime) {
     let heap = Refusing::new(rt.alloc());
-    for answered in ANSWERED {
-        assert!(rt; 10 <= early_ends(&rt, rt.alloc(), &heap, *answered));
+    for case in PRINTED {
+        assert!(rt; 10 <= early_ends(&rt, rt.alloc(), &heap, *case));
     }
 }
 

@@ -52,8 +52,8 @@ fn input_is_read_whole_or_refused(rt: HostRuntime) {
 /// of them if `calls` is `None`.
 fn fails_to_read(heap: Global, mut reader: FakeReader, calls: Option<usize>) -> bool {
     let mut writer = FakeWriter::new(heap, 1000);
-    let answer = play(&heap, &mut reader, &mut writer, Limits::usual());
-    answer == Err(PlayFault::ReadFault)
+    let played = play(&heap, &mut reader, &mut writer, Limits::usual());
+    played == Err(PlayFault::ReadFault)
         && writer.taken().is_empty()
         && calls.is_none_or(|calls| reader.calls() == calls)
 }
@@ -84,8 +84,8 @@ fn a_read_that_fails_at_any_byte_is_told(rt: HostRuntime) {
 fn goes_out_in_parts(heap: Global, most: usize) -> bool {
     let mut reader = FakeReader::ending(SCRIPT.as_bytes());
     let mut writer = FakeWriter::taking(heap, most);
-    let answer = play(&heap, &mut reader, &mut writer, Limits::usual());
-    answer == Ok(()) && writer.taken() == REPORT.as_bytes()
+    let played = play(&heap, &mut reader, &mut writer, Limits::usual());
+    played == Ok(()) && writer.taken() == REPORT.as_bytes()
 }
 
 #[test]
@@ -99,13 +99,13 @@ fn a_report_goes_out_in_parts(rt: HostRuntime) {
 fn is_written_up_to(heap: Global, mut writer: FakeWriter, most: usize) -> bool {
     let report = REPORT.as_bytes();
     let mut reader = FakeReader::ending(SCRIPT.as_bytes());
-    let answer = play(&heap, &mut reader, &mut writer, Limits::usual());
+    let played = play(&heap, &mut reader, &mut writer, Limits::usual());
     let expected = if most < report.len() {
         Err(PlayFault::WriteFault { written: most })
     } else {
         Ok(())
     };
-    answer == expected && report.get(..most) == Some(writer.taken())
+    played == expected && report.get(..most) == Some(writer.taken())
 }
 
 #[test]
@@ -193,31 +193,31 @@ fn a_write_that_takes_nothing_or_is_interrupted_is_not_tried_again(rt: HostRunti
 }
 
 /// What a reader gives at a call.
-enum Answer {
+enum Given {
     Byte(u8),
     End,
     Interrupted,
 }
 
-/// A reader that gives the next answer at each call, and then ends. Read again after an `End`, it goes on.
+/// A reader that gives the next of these at each call, and then ends. Read again after an `End`, it goes on.
 #[derive(Drop)]
-struct Answering {
-    answers: &'static [Answer],
+struct Giving {
+    given: &'static [Given],
     calls: usize,
 }
 
-impl Read for Answering {
+impl Read for Giving {
     ghost use Rattle.std.specs.Prelude.{None};
 
     ghost remaining = { λ _. None };
 
     fn read(&mut self, buf: &mut [u8]) -> io::Result<usize> {
-        let answer = self.answers.get(self.calls);
+        let next = self.given.get(self.calls);
         // form: saturating spares a requirement
         self.calls = self.calls.saturating_add(1);
-        match answer {
-            Some(Answer::Interrupted) => Err(io::Error::from(ErrorKind::Interrupted)),
-            Some(Answer::Byte(byte)) if !buf.is_empty() => {
+        match next {
+            Some(Given::Interrupted) => Err(io::Error::from(ErrorKind::Interrupted)),
+            Some(Given::Byte(byte)) if !buf.is_empty() => {
                 buf[0] = *byte;
                 Ok(1)
             }
@@ -226,27 +226,27 @@ impl Read for Answering {
     }
 }
 
-const A: Answer = Answer::Byte(b'a');
+const A: Given = Given::Byte(b'a');
 
-const B: Answer = Answer::Byte(b'b');
+const B: Given = Given::Byte(b'b');
 
-/// Cases: what a reader answers; what is read of that, or `None` if a read fails; and in how many calls.
-const ANSWERED: &[(&[Answer], Option<&str>, usize)] = &[
+/// Cases: what a reader gives; what is read of that, or `None` if a read fails; and in how many calls.
+const GIVEN: &[(&[Given], Option<&str>, usize)] = &[
     (&[A, B], Some("ab"), 3),
-    (&[A, Answer::End, B], Some("a"), 2),
-    (&[Answer::End, B], Some(""), 1),
-    (&[Answer::Interrupted, B], None, 1),
-    (&[A, Answer::Interrupted, B], None, 2),
+    (&[A, Given::End, B], Some("a"), 2),
+    (&[Given::End, B], Some(""), 1),
+    (&[Given::Interrupted, B], None, 1),
+    (&[A, Given::Interrupted, B], None, 2),
 ];
 
-/// Whether `expected` is read of these answers, in `calls` calls.
-fn reads_answers(
+/// Whether `expected` is read of what a reader gives, in `calls` calls.
+fn reads_given(
     heap: Global,
-    answers: &'static [Answer],
+    given: &'static [Given],
     expected: Option<&str>,
     calls: usize,
 ) -> bool {
-    let mut reader = Answering { answers, calls: 0 };
+    let mut reader = Giving { given, calls: 0 };
     let is_so = match (read_input(heap, &mut reader, 10), expected) {
         (Ok(bytes), Some(text)) => bytes.as_slice() == text.as_bytes(),
         (Err(fault), None) => fault == InputFault::ReadFault,
@@ -258,8 +258,8 @@ fn reads_answers(
 /// A reader may give one byte at a call; it is not read after an end; an interrupted read counts as failed.
 #[test]
 fn a_reader_is_read_up_to_its_end(rt: HostRuntime) {
-    for (place, (answers, expected, calls)) in ANSWERED.iter().enumerate() {
-        let is_so = reads_answers(rt.alloc(), answers, *expected, *calls);
+    for (place, (given, expected, calls)) in GIVEN.iter().enumerate() {
+        let is_so = reads_given(rt.alloc(), given, *expected, *calls);
         holds_at(&rt, is_so, place as u64);
     }
 }

@@ -10,7 +10,7 @@ ghost use Rattle.transcript_core.specs.Refusals.{fault_in, first_from, first_in,
 use bench_core::{Act, Bench, Fault, History, Limits, Reply};
 use grammar_core::{Command, Line, Script, lines, node_names};
 use payload_core::Oom;
-use report_core::{answer, is_out_of_memory, unwind};
+use report_core::{is_out_of_memory, reply_of, unwind};
 use std::alloc::Allocator;
 
 /// An act or an unwind that was refused. `number` is the number of its line in a script; for a recorded call it is the
@@ -40,7 +40,7 @@ fn ask<'a, B: Allocator>(
     ensures refusal { IfOk result (λ refusal. refusal ≡ fault_in (reply_of bench.old actor (plain_act act.now))) }
     ensures bench { OnOk result (bench.new ≡ after_act bench.old actor (plain_act act.now)) }
 {
-    Ok(fault_in(answer(bench, actor, act)?))
+    Ok(fault_in(reply_of(bench, actor, act)?))
 }
 
 /// Why the unwind of a step would be refused; `None` if it wouldn't. Only refused memory is an error.

@@ -4,7 +4,7 @@ ghost use Rattle.payload_core.specs.Messages.{numbered};
 ghost use Rattle.whatif_core.specs.Differences.{nearest_change};
 ghost use Rattle.whatif_core.specs.Exact.{HasOrder};
 ghost use Rattle.progress_core.specs.Watches.{Watched};
-ghost use Rattle.whatif_report.specs.Answers.{Asks, IsAnswer, IsRun, IsScriptWith, Refuses, RefusesRun};
+ghost use Rattle.whatif_report.specs.Questions.{Asks, TellsChanges, IsRun, IsScriptWith, Refuses, RefusesRun};
 
 use crate::run_text::script_of;
 use crate::telling::tell;
@@ -51,7 +51,7 @@ pub fn whatif_asked<'a, B: Allocator, W: Watch<Tried>>(
     question: Question<'_>,
     watch: &mut W,
 ) -> Result<String<&'a B>, WhatifFault>
-    ensures answer { IfOk result (λ text. IsAnswer bench.now question.entry (string_bytes text)) }
+    ensures text { IfOk result (λ text. TellsChanges bench.now question.entry (string_bytes text)) }
     ensures refused { IfErr result (Refuses bench.now question.entry) }
     ensures watched { Watched W.told watch.old watch.new }
 {

@@ -32,7 +32,7 @@ impl From<Oom> for WhatifFault {
 }
 
 impl From<WordFault> for WhatifFault {
-    ghost use Rattle.whatif_report.specs.Answers.{fault_of_word};
+    ghost use Rattle.whatif_report.specs.Questions.{fault_of_word};
 
     ghost from_gives = { λ fault given. given ≡ fault_of_word fault };
 

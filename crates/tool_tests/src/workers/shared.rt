@@ -18,10 +18,10 @@ type Heap = Refusing<Global>;
 /// came back still answers.
 fn memory_explains<'a>(refused: (RaceFault, Bench<'a, Heap>)) -> bool {
     let (fault, mut bench) = refused;
-    let answer = bench.act(0, &Act::Undo(0));
+    let reply = bench.act(0, &Act::Undo(0));
     drop(bench);
     let wants = fault == RaceFault::OutOfMemory || fault == RaceFault::WorkerRefused;
-    wants && answer == Reply::Refused(Fault::NoSuchStep)
+    wants && reply == Reply::Refused(Fault::NoSuchStep)
 }
 
 /// Races with request `number` for memory refused, and says whether there was such a request. If the race is refused,

@@ -1,7 +1,7 @@
 use Rattle.std.proofs.Common.{◌≡◌, ◌++◌}
-use Rattle.network_rules.specs.Queries.{answers, node_queries}
+use Rattle.network_rules.specs.Queries.{standings_of, node_queries}
 use Rattle.network_rules.proofs.key.put_node.Given as goal
 
 -- of the first dots
 abbrev pub invariant-loop-place : goal.invariant-loop-place
-invariant-loop-place g l = l.key.items ≡ l.fn.key.items ++ answers l.cluster (node_queries l.dots l.number l.names l.place)
+invariant-loop-place g l = l.key.items ≡ l.fn.key.items ++ standings_of l.cluster (node_queries l.dots l.number l.names l.place)

@@ -4,7 +4,7 @@ use Rattle.picture_core.specs.Views.{IsPicture, Refuses}
 use Rattle.picture_core.specs.declared.view.View.{View}
 use Rattle.program_core.proofs.Fronts.{bench_at}
 use Rattle.program_core.proofs.Printed.{asked_draw, ends_draw, fails_not, refused_draw}
-use Rattle.program_core.specs.declared.fault.Fault.{Fault}
+use Rattle.program_core.specs.declared.fault.ProgramFault.{ProgramFault}
 use Rattle.program_core.specs.Program.{EndsAt}
 use Rattle.command_line.specs.declared.chosen.Form.TheVariants as forms
 use Rattle.program_core.proofs.pictures.draw_run.Goals as goal
@@ -18,7 +18,7 @@ pub returns-in-Err-clause-ends : goal.returns-in-Err-clause-ends
 returns-in-Err-clause-ends g c = λ form.
     let known = g.R.Read.remaining c.args.reader.now in
     let out = g.W.Write.contents c.args.writer.now in
-    subst (λ (fault : Fault). EndsAt (Draw c.args.drawing) form c.args.setting.now.limits known (Err fault) out out) (sym c.from.ensures)
+    subst (λ (fault : ProgramFault). EndsAt (Draw c.args.drawing) form c.args.setting.now.limits known (Err fault) out out) (sym c.from.ensures)
     (asked_draw form c.args.setting.now.limits known out c.args.drawing c.in_ok-run.run'.bench c.in-Err.fault
     (bench_at c.args.setting.now.limits known c.in_ok-run.run'.bench c.in_ok-run.run'.consoles c.in_ok-run.ensures.run)
     (subst (λ (view : View). Refuses c.in_ok-run.run'.bench view.of c.in-Err.fault) c.view_of.ensures c.in-Err.ensures.refused))

@@ -2,7 +2,7 @@ use Rattle.std.proofs.Common.{◌≡◌, ◌∙◌, refl, rules, ℕ, List, Err,
 use Rattle.command_line.specs.declared.chosen.Subcommand.TheVariants.{Explore}
 use Rattle.program_core.specs.Explored.{TellsExplored, asked_of}
 use Rattle.program_core.specs.Program.{EndsAt}
-use Rattle.program_core.specs.declared.fault.Fault.{Fault}
+use Rattle.program_core.specs.declared.fault.ProgramFault.{ProgramFault}
 use Rattle.program_core.proofs.Printed.{asked_explore, ends_explore, fails_not, refused_explore}
 use Rattle.progress_core.specs.Lines.{walked_line, TellsWalked}
 use Rattle.progress_core.proofs.Telling.{tells_nothing, told_nothing}
@@ -16,7 +16,7 @@ returns-in_err-bench-clause-ends g c = λ form. search (rules, refused_explore)
 -- it does, and nothing is told of it
 pub returns-in-Err-clause-ends : goal.returns-in-Err-clause-ends
 returns-in-Err-clause-ends g c = λ form.
-    subst (λ (fault : Fault). EndsAt (Explore c.args.asked.about c.args.asked.lost c.args.asked.again c.args.asked.states c.args.asked.outcome) form c.args.setting.now.limits (g.R.Read.remaining c.args.reader.now) (Err fault)
+    subst (λ (fault : ProgramFault). EndsAt (Explore c.args.asked.about c.args.asked.lost c.args.asked.again c.args.asked.states c.args.asked.outcome) form c.args.setting.now.limits (g.R.Read.remaining c.args.reader.now) (Err fault)
     (g.W.Write.contents c.args.writer.now) (g.W.Write.contents c.args.writer.now)) (sym c.from.ensures)
     (asked_explore form c.args.setting.now.limits (g.R.Read.remaining c.args.reader.now) (g.W.Write.contents c.args.writer.now) c.args.asked.about c.args.asked.lost c.args.asked.again c.args.asked.states c.args.asked.outcome
     c.in_ok-bench.bench c.in-Err.fault c.in_ok-bench.ensures.bench

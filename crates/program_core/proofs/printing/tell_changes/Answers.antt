@@ -2,7 +2,7 @@ use Rattle.std.proofs.Common.{◌≡◌, ◌∙◌, refl, rules, ℕ, List, Err,
 use Rattle.program_core.specs.Whatifs.{TellsWhatif}
 use Rattle.program_core.proofs.Printed.{asked_whatif, ends_whatif, fails_not, refused_whatif}
 use Rattle.command_line.specs.declared.chosen.Subcommand.TheVariants.{Whatif}
-use Rattle.program_core.specs.declared.fault.Fault.{Fault}
+use Rattle.program_core.specs.declared.fault.ProgramFault.{ProgramFault}
 use Rattle.program_core.specs.Program.{EndsAt}
 use Rattle.progress_core.specs.Lines.{tried_line, TellsTried}
 use Rattle.progress_core.proofs.Telling.{tells_nothing, told_nothing}
@@ -16,7 +16,7 @@ returns-in_err-bench-clause-ends g c = λ form. search (rules, refused_whatif)
 -- it does, and nothing is told of it
 pub returns-in-Err-clause-ends : goal.returns-in-Err-clause-ends
 returns-in-Err-clause-ends g c = λ form.
-    subst (λ (fault : Fault). EndsAt (Whatif c.args.asked.question c.args.asked.change) form c.args.setting.now.limits (g.R.Read.remaining c.args.reader.now) (Err fault) (g.W.Write.contents c.args.writer.now)
+    subst (λ (fault : ProgramFault). EndsAt (Whatif c.args.asked.question c.args.asked.change) form c.args.setting.now.limits (g.R.Read.remaining c.args.reader.now) (Err fault) (g.W.Write.contents c.args.writer.now)
     (g.W.Write.contents c.args.writer.now)) (sym c.from.ensures)
     (asked_whatif form c.args.setting.now.limits (g.R.Read.remaining c.args.reader.now) (g.W.Write.contents c.args.writer.now) c.args.asked.question c.args.asked.change c.in_ok-bench.bench c.in-Err.fault
     c.in_ok-bench.ensures.bench c.in-Err.ensures.refused)

@@ -7,12 +7,12 @@ pub returns-clause-aside : goal.returns-clause-aside
 returns-clause-aside g c = λ zero.
     subst (λ (o : Option (List ℕ)). TellsBeside c.args.setting.now.terminal c.args.setting.now.limits c.args.choice.command c.args.choice.form (g.R.Read.remaining c.args.reader.now)
     (g.E.Write.contents c.args.errors.now) o)
-    (sym (c.tell_fault.ensures.quiet (zero_fine c.answer_on-answer.result (sym c.status_of.ensures ∙ zero)))) c.answer_on-answer.ensures.aside
+    (sym (c.tell_fault.ensures.quiet (zero_fine c.carry_out_announced-outcome.result (sym c.status_of.ensures ∙ zero)))) c.carry_out_announced-outcome.ensures.aside
 
 -- only a fault that is no end is told behind it
 pub returns-clause-told : goal.returns-clause-told
 returns-clause-told g c = λ end.
     told_at_end c.args.setting.now.terminal c.args.setting.now.limits c.args.choice.command c.args.choice.form (g.R.Read.remaining c.args.reader.now)
-    (g.E.Write.contents c.args.errors.now) (g.E.Write.contents c.answer_on-answer.new.errors) (g.E.Write.contents c.tell_fault.new.errors)
-    c.answer_on-answer.new.notes.lost c.answer_on-answer.result _ _ (subst IsEnd c.status_of.ensures end) c.answer_on-answer.ensures.ends
-    c.answer_on-answer.ensures.told c.tell_fault.ensures.quiet
+    (g.E.Write.contents c.args.errors.now) (g.E.Write.contents c.carry_out_announced-outcome.new.errors) (g.E.Write.contents c.tell_fault.new.errors)
+    c.carry_out_announced-outcome.new.notes.lost c.carry_out_announced-outcome.result _ _ (subst IsEnd c.status_of.ensures end) c.carry_out_announced-outcome.ensures.ends
+    c.carry_out_announced-outcome.ensures.told c.tell_fault.ensures.quiet

@@ -5,7 +5,7 @@ use Rattle.program_core.proofs.stepping.step_script.Goals as goal
 
 pub returns-in-Ok-clause-ends : goal.returns-in-Ok-clause-ends
 returns-in-Ok-clause-ends g c = λ form.
-    ends_step c.report_law.ensures form c.args.setting.now.limits c.help.result.now c.help.ensures _ _ _ c.in-Ok.ensures.answers
+    ends_step c.report_law.ensures form c.args.setting.now.limits c.help.result.now c.help.ensures _ _ _ c.in-Ok.ensures.responses
 
 pub returns-in-Err-clause-ends : goal.returns-in-Err-clause-ends
 returns-in-Err-clause-ends g c = λ form. ends_prompt form c.args.setting.now.limits c.in-Err.fault _ _ _

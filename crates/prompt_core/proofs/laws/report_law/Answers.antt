@@ -1,5 +1,5 @@
-use Rattle.prompt_core.proofs.Printed.{script_answered}
+use Rattle.prompt_core.proofs.Printed.{script_responded}
 use Rattle.prompt_core.proofs.laws.report_law.Goals as goal
 
 pub returns : goal.returns
-returns c = script_answered c.prompt_law.ensures
+returns c = script_responded c.prompt_law.ensures

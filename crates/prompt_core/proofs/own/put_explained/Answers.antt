@@ -4,6 +4,6 @@ use Rattle.prompt_core.proofs.own.put_explained.Goals as goal
 
 pub returns : goal.returns
 returns g c =
-    subst (λ (text : List ℕ). OnOk c.put_explanation.result (c.put_explanation.new.answer.items ≡ c.args.answer.now.items ++ text))
+    subst (λ (text : List ℕ). OnOk c.put_explanation.result (c.put_explanation.new.response.items ≡ c.args.response.now.items ++ text))
     (three_words c.args.number c.args.prompt.now.machine c.in-Some.bench.now c.args.words.now _ c.in-Some.ensures c.in-len3.len_at_least c.in-len3.len_below)
     c.put_explanation.ensures

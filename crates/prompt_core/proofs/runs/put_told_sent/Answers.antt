@@ -4,6 +4,6 @@ use Rattle.prompt_core.proofs.runs.put_told_sent.Goals as goal
 
 pub returns : goal.returns
 returns g c =
-    subst (λ (text : List ℕ). OnOk c.put_sent_at.result (c.put_sent_at.new.answer.items ≡ c.args.answer.now.items ++ text))
+    subst (λ (text : List ℕ). OnOk c.put_sent_at.result (c.put_sent_at.new.response.items ≡ c.args.response.now.items ++ text))
     (one_word c.args.number c.args.prompt.now.machine c.in-Some.bench.now c.args.words.now _ c.in-Some.ensures c.in-len1.len_at_least c.in-len1.len_below)
     c.put_sent_at.ensures

@@ -6,7 +6,7 @@ use Rattle.report_core.proofs.acting.come_to.Goals.{in-Taken+in_ok-change-in-Tak
 
 pub step_diff-requires : goal.step_diff-requires
 step_diff-requires g c =
-    (newest c.args.bench.now c.answer.new.bench c.args.actor (plain_act c.args.act.now) c.in-Taken.number c.bench_law.ensures.reached
+    (newest c.args.bench.now c.reply_of.new.bench c.args.actor (plain_act c.args.act.now) c.in-Taken.number c.bench_law.ensures.reached
     (sym c.in_ok-reply.ensures.reply ∙ c.in-Taken.is) c.in_ok-reply.ensures.bench).free
 
 pub returns-clause-left : goal.returns-clause-left
@@ -14,9 +14,9 @@ returns-clause-left g c =
     elim c.match-reply.branch [
       | in-Taken+in_ok-change-in-Taken w ↦
           rw w.change-is
-          (taken_rows c.args.bench.now c.answer.new.bench c.args.actor (plain_act c.args.act.now) w.in-Taken.number _ _
+          (taken_rows c.args.bench.now c.reply_of.new.bench c.args.actor (plain_act c.args.act.now) w.in-Taken.number _ _
           (sym c.in_ok-reply.ensures.reply ∙ w.in-Taken.is) c.in_ok-reply.ensures.bench
-          (newest c.args.bench.now c.answer.new.bench c.args.actor (plain_act c.args.act.now) w.in-Taken.number c.bench_law.ensures.reached
+          (newest c.args.bench.now c.reply_of.new.bench c.args.actor (plain_act c.args.act.now) w.in-Taken.number c.bench_law.ensures.reached
           (sym c.in_ok-reply.ensures.reply ∙ w.in-Taken.is) c.in_ok-reply.ensures.bench)
           w.in_ok-change-in-Taken.ensures).0
       | in-Undone w ↦
@@ -35,9 +35,9 @@ returns-clause-joined g c =
     elim c.match-reply.branch [
       | in-Taken+in_ok-change-in-Taken w ↦
           rw w.change-is
-          (taken_rows c.args.bench.now c.answer.new.bench c.args.actor (plain_act c.args.act.now) w.in-Taken.number _ _
+          (taken_rows c.args.bench.now c.reply_of.new.bench c.args.actor (plain_act c.args.act.now) w.in-Taken.number _ _
           (sym c.in_ok-reply.ensures.reply ∙ w.in-Taken.is) c.in_ok-reply.ensures.bench
-          (newest c.args.bench.now c.answer.new.bench c.args.actor (plain_act c.args.act.now) w.in-Taken.number c.bench_law.ensures.reached
+          (newest c.args.bench.now c.reply_of.new.bench c.args.actor (plain_act c.args.act.now) w.in-Taken.number c.bench_law.ensures.reached
           (sym c.in_ok-reply.ensures.reply ∙ w.in-Taken.is) c.in_ok-reply.ensures.bench)
           w.in_ok-change-in-Taken.ensures).1
       | in-Undone w ↦

@@ -28,7 +28,7 @@ pub record HasOutcomes (m : Machine) (question : Question) (q : Plain) (os : Lis
   pub outcomes : AreOutcomes m q question.lost question.again os
 
 -- the text tells these outcomes
-pub record IsAnswer (m : Machine) (question : Question) (text : List ℕ) : Type 0 where
+pub record TellsOutcomes (m : Machine) (question : Question) (text : List ℕ) : Type 0 where
   pub q : Plain
   pub outcomes : List Outcome
   pub has : HasOutcomes m question q outcomes

@@ -113,7 +113,7 @@ run_word prompt number kind first words =
     else (if bytes_eq first (codes ":sent") then told_sent number prompt.machine words
     else fault_line number kind)))
 
--- the answer to these words, which have this fault in a script: what the first word asks, if it is one of the prompt's own
+-- the response to these words, which have this fault in a script: what the first word asks, if it is one of the prompt's own
 unfoldable pub worded : List ℕ → Prompt → ℕ → FaultKind → Texts → List ℕ
 worded help prompt number kind [] = fault_line number kind
 worded help prompt number kind (first ∷ words) =
@@ -130,18 +130,18 @@ may_be_own UnknownWord = true
 may_be_own NoNodes = true
 may_be_own _ = false
 
--- the answer to a line that has this fault in a script: to one of the prompt's own lines what it asks, to any other the fault
-unfoldable pub own_answer : List ℕ → Prompt → ℕ → List ℕ → FaultKind → List ℕ
-own_answer help prompt number line kind =
+-- the response to a line that has this fault in a script: to one of the prompt's own lines what it asks, to any other the fault
+unfoldable pub own_response : List ℕ → Prompt → ℕ → List ℕ → FaultKind → List ℕ
+own_response help prompt number line kind =
     if may_be_own kind then worded help prompt number kind (words_of line) else fault_line number kind
 
-abbrev pub answer_by : List ℕ → Prompt → ℕ → List ℕ → Result (Prompt × List ℕ) FaultKind → Prompt × List ℕ
-answer_by help prompt number line (Ok next) = next
-answer_by help prompt number line (Err kind) = (prompt, own_answer help prompt number line kind)
+abbrev pub response_by : List ℕ → Prompt → ℕ → List ℕ → Result (Prompt × List ℕ) FaultKind → Prompt × List ℕ
+response_by help prompt number line (Ok next) = next
+response_by help prompt number line (Err kind) = (prompt, own_response help prompt number line kind)
 
--- the prompt after a line, and the answer: what a line of a script prints, or else its own answer
-unfoldable pub answer : List ℕ → Prompt → ℕ → List ℕ → Prompt × List ℕ
-answer help prompt number line = answer_by help prompt number line (taken prompt [] line)
+-- the prompt after a line, and the response: what a line of a script prints, or else its own response
+unfoldable pub response : List ℕ → Prompt → ℕ → List ℕ → Prompt × List ℕ
+response help prompt number line = response_by help prompt number line (taken prompt [] line)
 
 -- whether each of these words is `:quit`
 abbrev pub are_quits : Texts → Bool
@@ -151,9 +151,9 @@ are_quits words = list_all (λ word. bytes_eq word (codes ":quit")) words
 unfoldable pub is_quit : List ℕ → Bool
 is_quit line = nat_le (length line) longest_line && (are_quits (words_of line) && (length (words_of line) == 1))
 
--- the answers to the lines from this number on, in order, up to the one that ends the prompt
-unfoldable pub answers : List ℕ → Prompt → ℕ → List (List ℕ) → List ℕ
-answers help prompt number [] = []
-answers help prompt number (line ∷ lines) =
+-- the responses to the lines from this number on, in order, up to the one that ends the prompt
+unfoldable pub responses : List ℕ → Prompt → ℕ → List (List ℕ) → List ℕ
+responses help prompt number [] = []
+responses help prompt number (line ∷ lines) =
     if is_quit line then []
-    else (answer help prompt number line).1 ++ answers help (answer help prompt number line).0 (number + 1) lines
+    else (response help prompt number line).1 ++ responses help (response help prompt number line).0 (number + 1) lines

@@ -1,7 +1,7 @@
 use Rattle.std.proofs.Common.{◌∙◌, sym, true≢false}
 use Rattle.bench_core.specs.Acts.{plain_act}
 use Rattle.report_core.proofs.Answered.{answered}
-use Rattle.report_core.proofs.acting.answer.Goals as goal
+use Rattle.report_core.proofs.acting.reply_of.Goals as goal
 
 pub returns-clause-reply : goal.returns-clause-reply
 returns-clause-reply g c =

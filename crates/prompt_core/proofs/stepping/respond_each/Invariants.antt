@@ -1,7 +1,7 @@
 use Rattle.std.proofs.Common.{◌≡◌}
 use Rattle.prompt_core.proofs.Shown.{HasShownSo}
 use Rattle.prompt_core.proofs.Turns.{HasComeSo}
-use Rattle.prompt_core.proofs.stepping.answer_each.Given as goal
+use Rattle.prompt_core.proofs.stepping.respond_each.Given as goal
 
 -- how far the prompt has come, without a failed read, and which signs went out
 abbrev pub invariant-loop-number : goal.invariant-loop-number

@@ -31,7 +31,7 @@ pub record Asks (m : Machine) (question : Question) (q : Plain) : Type 0 where
   pub key_word : is_word question.key.now ≡ true
 
 -- the text tells what would have made a difference
-pub record IsAnswer (m : Machine) (question : Question) (text : List ℕ) : Type 0 where
+pub record TellsChanges (m : Machine) (question : Question) (text : List ℕ) : Type 0 where
   pub q : Plain
   pub asks : Asks m question q
   pub told : text ≡ whatif_text m q
