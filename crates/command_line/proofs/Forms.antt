@@ -18,13 +18,13 @@ unfolding by_name
 usual_by_name (Play strict) = refl
 usual_by_name Race = refl
 usual_by_name (Load strict) = refl
-usual_by_name (Import check lines lenient) = refl
-usual_by_name (Explore about lost again states outcome) = refl
+usual_by_name (Import wanted) = refl
+usual_by_name (Explore wanted) = refl
 usual_by_name Step = refl
 usual_by_name (Draw drawing) = refl
 usual_by_name Page = refl
 usual_by_name (Explain question) = refl
-usual_by_name (Whatif question change) = refl
+usual_by_name (Whatif wanted) = refl
 
 pub usual_alike : (command other : Subcommand) → name_of command ≡ name_of other → usual_form command ≡ usual_form other
 usual_alike command other same = usual_by_name command ∙ ap by_name same ∙ sym (usual_by_name other)
@@ -39,13 +39,13 @@ unfolding prints_by_name
 can_by_name options question of (Play strict) form takes = refl
 can_by_name options question of Race form takes = refl
 can_by_name options question of (Load strict) form takes = refl
-can_by_name options question of (Import check lines lenient) form takes = ap (λ b. import_prints b form) takes.0
-can_by_name options question of (Explore about lost again states outcome) form takes = refl
+can_by_name options question of (Import wanted) form takes = ap (λ b. import_prints b form) takes.0
+can_by_name options question of (Explore wanted) form takes = refl
 can_by_name options question of Step form takes = refl
 can_by_name options question of (Draw drawing) form takes = refl
 can_by_name options question of Page form takes = refl
 can_by_name options question of (Explain asked) form takes = refl
-can_by_name options question of (Whatif asked change) form takes = refl
+can_by_name options question of (Whatif wanted) form takes = refl
 
 flag_alike : (value : Option (List ℕ)) (a b : Bool) → IsFlag value a → IsFlag value b → a ≡ b
 flag_alike value true true is has = refl

@@ -107,12 +107,12 @@ lacks_all : (values : List ℕ → Option (List ℕ)) (found asked : Option Ques
     IfNone found ((q : Question) → ¬ IsQuestion values q) → IfNone about ((a : About) → ¬ IsAbout values a) → IfSome about (IsAbout values) →
     IfSome asked (IsQuestion values) → IfSome of (IsAbout values) → Lacks found about command → Takes options asked of command → ⊥
 lacks_all values found asked about of options (Explain question) none never around is has lacks takes = no_question values found asked question none is lacks takes
-lacks_all values found asked about of options (Whatif question change) none never around is has lacks takes = no_question values found asked question none is lacks takes.0
-lacks_all values found asked about of options (Explore it lost again states outcome) none never around is has lacks takes = no_about values about of it never has lacks takes.0
+lacks_all values found asked about of options (Whatif wanted) none never around is has lacks takes = no_question values found asked wanted.question none is lacks takes.0
+lacks_all values found asked about of options (Explore wanted) none never around is has lacks takes = no_about values about of wanted.about never has lacks takes.0
 lacks_all values found asked about of options (Play strict) none never around is has lacks takes = lacks
 lacks_all values found asked about of options Race none never around is has lacks takes = lacks
 lacks_all values found asked about of options (Load strict) none never around is has lacks takes = lacks
-lacks_all values found asked about of options (Import check lines lenient) none never around is has lacks takes = lacks
+lacks_all values found asked about of options (Import wanted) none never around is has lacks takes = lacks
 lacks_all values found asked about of options Step none never around is has lacks takes = lacks
 lacks_all values found asked about of options (Draw drawing) none never around is has lacks takes = draws values about of drawing.online never around has lacks takes.0
 lacks_all values found asked about of options Page none never around is has lacks takes = lacks

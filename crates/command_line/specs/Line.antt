@@ -109,13 +109,13 @@ abbrev pub name_of : Subcommand → List ℕ
 name_of (Play strict) = codes "play"
 name_of Race = codes "race"
 name_of (Load strict) = codes "load"
-name_of (Import check lines lenient) = codes "import"
-name_of (Explore about lost again states outcome) = codes "explore"
+name_of (Import wanted) = codes "import"
+name_of (Explore wanted) = codes "explore"
 name_of Step = codes "step"
 name_of (Draw drawing) = codes "draw"
 name_of Page = codes "page"
 name_of (Explain question) = codes "explain"
-name_of (Whatif question change) = codes "whatif"
+name_of (Whatif wanted) = codes "whatif"
 
 abbrev pub form_name : Form → List ℕ
 form_name Report = codes "report"
@@ -126,7 +126,7 @@ form_name PageForm = codes "page"
 
 -- the form in which a subcommand prints if none is named
 abbrev pub usual_form : Subcommand → Form
-usual_form (Import check lines lenient) = Script
+usual_form (Import wanted) = Script
 usual_form command = Report
 
 -- the form that a value names; without a value it is the usual one
@@ -191,16 +191,17 @@ abbrev pub Takes : Options → Option Question → Option About → Subcommand �
 Takes options question about (Draw drawing) =
     IsOnline about drawing.online × (drawing.why ≡ options.why) × (drawing.from ≡ options.from) × (drawing.to ≡ options.to)
 Takes options question about Page = ⊤
-Takes options question about (Explore asked lost again states outcome) =
-    (about ≡ Some asked) × (lost ≡ unwrap_or options.lost 0) × (again ≡ unwrap_or options.again 0) × (states ≡ unwrap_or options.states 100000) ×
-    (outcome ≡ options.script)
+Takes options question about (Explore wanted) =
+    (about ≡ Some wanted.about) × (wanted.lost ≡ unwrap_or options.lost 0) × (wanted.again ≡ unwrap_or options.again 0) ×
+    (wanted.states ≡ unwrap_or options.states 100000) × (wanted.outcome ≡ options.script)
 Takes options question about (Play strict) = strict ≡ options.strict
 Takes options question about Race = ⊤
 Takes options question about (Load strict) = strict ≡ options.strict
-Takes options question about (Import check lines lenient) = (check ≡ options.check) × (lines ≡ options.lines) × (lenient ≡ options.lenient)
+Takes options question about (Import wanted) =
+    (wanted.check ≡ options.check) × (wanted.lines ≡ options.lines) × (wanted.lenient ≡ options.lenient)
 Takes options question about Step = ⊤
 Takes options question about (Explain asked) = question ≡ Some asked
-Takes options question about (Whatif asked change) = (question ≡ Some asked) × (change ≡ options.script)
+Takes options question about (Whatif wanted) = (question ≡ Some wanted.question) × (wanted.change ≡ options.script)
 
 abbrev pub is_script : Form → Bool
 is_script Script = true
@@ -224,7 +225,7 @@ import_prints check form = is_script form
 -- whether the subcommand prints in this form: a race prints a report or a session, an import a script, a session or a page, and
 -- nothing else prints a page
 abbrev pub can_print : Subcommand → Form → Bool
-can_print (Import check lines lenient) form = import_prints check form
+can_print (Import wanted) form = import_prints wanted.check form
 can_print Race form = race_prints form
 can_print command form = not (is_page form)
 
@@ -244,12 +245,12 @@ pub record IsChoiceOf (name : List ℕ) (values : List ℕ → Option (List ℕ)
 -- the words that the subcommand needs aren't there
 abbrev pub Lacks : Option Question → Option About → Subcommand → Type 0
 Lacks question about (Explain asked) = question ≡ None
-Lacks question about (Whatif asked change) = question ≡ None
-Lacks question about (Explore asked lost again states outcome) = about ≡ None
+Lacks question about (Whatif wanted) = question ≡ None
+Lacks question about (Explore wanted) = about ≡ None
 Lacks question about (Play strict) = ⊥
 Lacks question about Race = ⊥
 Lacks question about (Load strict) = ⊥
-Lacks question about (Import check lines lenient) = ⊥
+Lacks question about (Import wanted) = ⊥
 Lacks question about Step = ⊥
 Lacks question about (Draw drawing) = AsksOtherwise about
 Lacks question about Page = ⊥

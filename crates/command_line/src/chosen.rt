@@ -33,37 +33,52 @@ pub struct Drawing<'w> {
     pub to: Option<u64>,
 }
 
+/// What `import` makes of the events of logs: a script, unless `check` is set.
+#[derive(Clone, Copy, Debug, PartialEq, Eq)]
+pub struct ImportOptions {
+    /// Whether to tell instead where the bench and the real nodes part.
+    pub check: bool,
+    /// Whether the line of each event stands below a comment with the event's line number in the logs.
+    pub lines: bool,
+    /// Whether to leave out, round by round, each event that takes a message which none of the rest sends.
+    pub lenient: bool,
+}
+
+/// Which outcomes `explore` tells.
+#[derive(Clone, Copy, Debug, PartialEq, Eq)]
+pub struct ExploreOptions<'w> {
+    pub about: About<'w>,
+    /// How many deliveries may be missing.
+    pub lost: usize,
+    /// How many deliveries may come a second time.
+    pub again: usize,
+    /// How many different states are kept at most.
+    pub states: usize,
+    /// The number of the outcome to which the printed run leads; `None` for the outcomes themselves.
+    pub outcome: Option<u64>,
+}
+
+/// What `whatif` tells: which single changes would have made a difference to the presences of `question`.
+#[derive(Clone, Copy, Debug, PartialEq, Eq)]
+pub struct WhatifOptions<'w> {
+    pub question: Question<'w>,
+    /// The number of the change with which the run is printed; `None` for the changes themselves.
+    pub change: Option<u64>,
+}
+
 /// What the program does.
 #[derive(Clone, Copy, Debug, PartialEq, Eq)]
 pub enum Subcommand<'w> {
     /// Plays a script. If `strict`, a refused act or unwind is a fault.
-    Play {
-        strict: bool,
-    },
+    Play { strict: bool },
     /// Runs a script as a race: a worker for each actor asks that actor's lines.
     Race,
     /// Plays a saved session again. If `strict`, a refused act is a fault.
-    Load {
-        strict: bool,
-    },
-    /// Makes a script from the events of logs. With `check` it tells instead where the bench and the real nodes part.
-    /// With `lines` the line of each event stands below a comment with the event's line number in the logs. With
-    /// `lenient` it leaves out, round by round, each event that takes a message which none of the rest sends.
-    Import {
-        check: bool,
-        lines: bool,
-        lenient: bool,
-    },
-    /// Tells what the network could have made of a run, with up to `lost` deliveries missing and up to `again` that
-    /// come twice. It keeps at most `states` different states. Given the number of an `outcome`, it prints a run that
-    /// leads to that outcome instead.
-    Explore {
-        about: About<'w>,
-        lost: usize,
-        again: usize,
-        states: usize,
-        outcome: Option<u64>,
-    },
+    Load { strict: bool },
+    /// Makes a script from the events of logs, or tells where the bench and the real nodes part.
+    Import(ImportOptions),
+    /// Tells what the network could have made of a run, or prints a run that leads to one outcome.
+    Explore(ExploreOptions<'w>),
     /// Takes a script line by line, and answers each before the next is read.
     Step,
     /// Draws a run.
@@ -72,12 +87,8 @@ pub enum Subcommand<'w> {
     Page,
     /// Explains why presences are online at a node, or why not.
     Explain(Question<'w>),
-    /// Tells which single changes would have made a difference to the presences that the question is about. Given the
-    /// number of a `change`, it prints the run with that change instead.
-    Whatif {
-        question: Question<'w>,
-        change: Option<u64>,
-    },
+    /// Tells which single changes would have made a difference, or prints the run with one change.
+    Whatif(WhatifOptions<'w>),
 }
 
 /// What `play`, `race`, `load` or `import` prints once it is done. Other subcommands print the same in each form.

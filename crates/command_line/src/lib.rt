@@ -9,6 +9,9 @@ mod help;
 mod line;
 mod subcommands;
 
-pub use chosen::{About, Choice, Drawing, Form, Question, Subcommand};
+pub use chosen::{
+    About, Choice, Drawing, ExploreOptions, Form, ImportOptions, Question, Subcommand,
+    WhatifOptions,
+};
 pub use help::LANGUAGE;
 pub use line::choice;

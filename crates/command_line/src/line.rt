@@ -9,7 +9,10 @@ ghost use Rattle.command_line.specs.declared.chosen.Form.{Form as Shown};
 ghost use Rattle.command_line.specs.declared.chosen.Options.{Options as Given};
 ghost use Rattle.command_line.specs.declared.chosen.Question.{Question as Asked};
 
-use crate::chosen::{About, Choice, Drawing, Form, Options, Question, Subcommand};
+use crate::chosen::{
+    About, Choice, Drawing, ExploreOptions, Form, ImportOptions, Options, Question, Subcommand,
+    WhatifOptions,
+};
 use crate::help::{
     DRAW_USAGE, EXPLAIN_USAGE, EXPLORE_USAGE, IMPORT_USAGE, LOAD_USAGE, PAGE_USAGE, PLAY_USAGE,
     RACE_USAGE, STEP_USAGE, WHATIF_USAGE,
@@ -84,18 +87,18 @@ fn command_of<'a>(
         "load" => Some(Subcommand::Load {
             strict: options.strict,
         }),
-        "import" => Some(Subcommand::Import {
+        "import" => Some(Subcommand::Import(ImportOptions {
             check: options.check,
             lines: options.lines,
             lenient: options.lenient,
-        }),
-        "explore" => Some(Subcommand::Explore {
+        })),
+        "explore" => Some(Subcommand::Explore(ExploreOptions {
             about: about?,
             lost: options.lost.unwrap_or(0) as usize,
             again: options.again.unwrap_or(0) as usize,
             states: options.states.unwrap_or(MOST_STATES) as usize,
             outcome: options.script,
-        }),
+        })),
         "step" => Some(Subcommand::Step),
         "draw" => Some(Subcommand::Draw(Drawing {
             online: online_of(about)?,
@@ -105,10 +108,10 @@ fn command_of<'a>(
         })),
         "page" => Some(Subcommand::Page),
         "explain" => Some(Subcommand::Explain(question?)),
-        "whatif" => Some(Subcommand::Whatif {
+        "whatif" => Some(Subcommand::Whatif(WhatifOptions {
             question: question?,
             change: options.script,
-        }),
+        })),
         _ => None,
     }
 }
@@ -118,7 +121,7 @@ fn usual_form(command: Subcommand<'_>) -> Form
     ensures { result ≡ usual_form command.entry }
 {
     match command {
-        Subcommand::Import { .. } => Form::Script,
+        Subcommand::Import(_) => Form::Script,
         _ => Form::Report,
     }
 }
@@ -208,8 +211,8 @@ fn can_print(command: Subcommand<'_>, form: Form) -> bool
     ensures { result ≡ can_print command.entry form }
 {
     match (command, form) {
-        (Subcommand::Import { check, .. }, Form::Session | Form::Page) => !check,
-        (Subcommand::Import { .. }, _) => form == Form::Script,
+        (Subcommand::Import(options), Form::Session | Form::Page) => !options.check,
+        (Subcommand::Import(_), _) => form == Form::Script,
         (Subcommand::Race, _) => form == Form::Report || form == Form::Session,
         (_, _) => form != Form::Page,
     }
@@ -218,8 +221,9 @@ fn can_print(command: Subcommand<'_>, form: Form) -> bool
 /// The text to print if the value of `--as` isn't a form in which the subcommand can print.
 fn forms_of(command: Subcommand<'_>) -> &'static str {
     match command {
-        Subcommand::Import { check: true, .. } => "import --check prints what it found alone",
-        Subcommand::Import { .. } => "import prints a script, a session or a page",
+        Subcommand::Import(ImportOptions { check: true, .. }) =>
+            "import --check prints what it found alone",
+        Subcommand::Import(_) => "import prints a script, a session or a page",
         Subcommand::Race => "race prints a report or a session",
         _ => "--as takes report, steps, script or session",
     }

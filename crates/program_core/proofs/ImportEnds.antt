@@ -3,6 +3,7 @@ use Rattle.std.proofs.Common.{◌≡◌, inl, inr, ℕ, Bool, true, false, List,
 use Rattle.bench_core.specs.Limits.{Limits}
 use Rattle.command_line.specs.declared.chosen.Form.{Form}
 use Rattle.command_line.specs.declared.chosen.Form.TheVariants as forms
+use Rattle.command_line.specs.declared.chosen.ImportOptions.{ImportOptions}
 use Rattle.command_line.specs.declared.chosen.Subcommand.TheVariants.{Import}
 use Rattle.stream_core.specs.Inputs.{IsWhole}
 use Rattle.stream_core.specs.Steps.{Steps}
@@ -78,11 +79,11 @@ import_unread fault e = read_by fault.line fault.kind e
 
 -- what was printed
 
-module _ (check lines lenient : Bool) (form : Form) (limits : Limits) (text left_out : List ℕ) (full : Bool) (old new : Option (List ℕ)) where
-  ends_made : (input : List ℕ) (differs : Bool) (r : Result (Unit {0}) ProgramFault) → IsMade check lines lenient form limits input text differs left_out full →
-      EndsAsMade text differs r old new → Ends (Import check lines lenient) form limits input r old new
-  ends_made input differs (Ok u) is e = (text, (left_out, full, subst (λ b. IsMade check lines lenient form limits input text b left_out full) e.0 is), e.1, refl)
-  ends_made input differs (Err faults.Differs) is e = (text, (left_out, full, subst (λ b. IsMade check lines lenient form limits input text b left_out full) e.0 is), e.1)
+module _ (wanted : ImportOptions) (form : Form) (limits : Limits) (text left_out : List ℕ) (full : Bool) (old new : Option (List ℕ)) where
+  ends_made : (input : List ℕ) (differs : Bool) (r : Result (Unit {0}) ProgramFault) → IsMade wanted.check wanted.lines wanted.lenient form limits input text differs left_out full →
+      EndsAsMade text differs r old new → Ends (Import wanted) form limits input r old new
+  ends_made input differs (Ok u) is e = (text, (left_out, full, subst (λ b. IsMade wanted.check wanted.lines wanted.lenient form limits input text b left_out full) e.0 is), e.1, refl)
+  ends_made input differs (Err faults.Differs) is e = (text, (left_out, full, subst (λ b. IsMade wanted.check wanted.lines wanted.lenient form limits input text b left_out full) e.0 is), e.1)
   ends_made input true (Err (faults.WriteFault written)) is e = (text, inr (left_out, full, is), e.0, e.1)
   ends_made input false (Err (faults.WriteFault written)) is e = (text, inl (left_out, full, is), e.0, e.1)
   ends_made input differs (Err (faults.Script fault)) is e = elim e [ ]
@@ -102,11 +103,11 @@ module _ (check lines lenient : Bool) (form : Form) (limits : Limits) (text left
   ends_made input differs (Err faults.OutOfMemory) is e = elim e [ ]
 
   pub ends_import : (known : Option (List ℕ)) (bytes : List ℕ) (differs : Bool) (r : Result (Unit {0}) ProgramFault) → IsWhole known bytes →
-      IsMade check lines lenient form limits bytes text differs left_out full → EndsAsMade text differs r old new →
-      EndsAt (Import check lines lenient) form limits known r old new
+      IsMade wanted.check wanted.lines wanted.lenient form limits bytes text differs left_out full → EndsAsMade text differs r old new →
+      EndsAt (Import wanted) form limits known r old new
   ends_import None bytes differs r whole is e = tt
   ends_import (Some input) bytes differs r whole is e =
-      ends_made input differs r (subst (λ (b : List ℕ). IsMade check lines lenient form limits b text differs left_out full) whole is) e
+      ends_made input differs r (subst (λ (b : List ℕ). IsMade wanted.check wanted.lines wanted.lenient form limits b text differs left_out full) whole is) e
 
 module _ (text : List ℕ) (differs : Bool) (old new : Option (List ℕ)) where
   pub made_before : (r : Result (Unit {0}) ProgramFault) → EndsAsMade text differs r old new → IfErr r (λ fault. KeepsBefore fault old new)
@@ -171,12 +172,13 @@ module _ (text : List ℕ) (differs : Bool) (old new : Option (List ℕ)) where
 
 -- what refuses them
 
-module _ (check lines lenient : Bool) (form : Form) (limits : Limits) where
-  pub refused_ends : (known old : Option (List ℕ)) (fault : ProgramFault) → RefusesImportAt check lines lenient form limits known fault → IsUnwritten fault →
-      EndsAt (Import check lines lenient) form limits known (Err fault) old old
+module _ (wanted : ImportOptions) (form : Form) (limits : Limits) where
+  pub refused_ends : (known old : Option (List ℕ)) (fault : ProgramFault) → RefusesImportAt wanted.check wanted.lines wanted.lenient form limits known fault → IsUnwritten fault →
+      EndsAt (Import wanted) form limits known (Err fault) old old
   refused_ends None old fault cause before = tt
-  refused_ends (Some input) old fault cause before = cause_ends (Import check lines lenient) form limits input fault old cause before
+  refused_ends (Some input) old fault cause before = cause_ends (Import wanted) form limits input fault old cause before
 
+module _ (check lines lenient : Bool) (form : Form) (limits : Limits) where
   pub refuses_whole : (known : Option (List ℕ)) (bytes : List ℕ) (fault : ProgramFault) → IsWhole known bytes →
       RefusesImport check lines lenient form limits bytes fault → RefusesImportAt check lines lenient form limits known fault
   refuses_whole None bytes fault whole refuses = tt

@@ -27,7 +27,8 @@ use Rattle.command_line.specs.declared.chosen.Subcommand.TheVariants.{Race, Expl
 use Rattle.program_core.specs.declared.fault.ProgramFault.{ProgramFault}
 use Rattle.program_core.specs.declared.fault.ProgramFault.TheVariants as faults
 use Rattle.grammar_core.specs.declared.fault.ScriptFault.{ScriptFault}
-use Rattle.command_line.specs.declared.chosen.About.{About}
+use Rattle.command_line.specs.declared.chosen.ExploreOptions.{ExploreOptions}
+use Rattle.command_line.specs.declared.chosen.WhatifOptions.{WhatifOptions}
 use Rattle.explore_report.specs.declared.report_fault.ReportFault.{ReportFault}
 use Rattle.explore_report.specs.declared.report_fault.ReportFault.TheVariants as reports
 use Rattle.program_core.specs.Explored.{RefusesExplored, TellsExplored, asked_of, fault_of_explore}
@@ -96,10 +97,10 @@ module _ (form : Form) (limits : Limits) (text : List ℕ) (old new : Option (Li
   ends_explain question None m r k told e = tt
   ends_explain question (Some input) m r k told e = ends (Explain question) input r (m, k, told) refl e
 
-  pub ends_whatif : (question : Question) (change : Option ℕ) (known : Option (List ℕ)) (m : Machine) (r : Result (Unit {0}) ProgramFault) → IsBenchAt limits known m →
-      TellsWhatif m question change text → EndsAsText text r old new → EndsAt (Whatif question change) form limits known r old new
-  ends_whatif question change None m r k told e = tt
-  ends_whatif question change (Some input) m r k told e = ends (Whatif question change) input r (m, k, told) refl e
+  pub ends_whatif : (asked : WhatifOptions) (known : Option (List ℕ)) (m : Machine) (r : Result (Unit {0}) ProgramFault) → IsBenchAt limits known m →
+      TellsWhatif m asked.question asked.change text → EndsAsText text r old new → EndsAt (Whatif asked) form limits known r old new
+  ends_whatif asked None m r k told e = tt
+  ends_whatif asked (Some input) m r k told e = ends (Whatif asked) input r (m, k, told) refl e
 
   pub ends_race : (known : Option (List ℕ)) (s : Script) (m : Machine) (r : Result (Unit {0}) ProgramFault) → IsScriptAt known s →
       IsRaceOf limits s m → text ≡ shown form (history_text m) m → EndsAsText text r old new → EndsAt Race form limits known r old new
@@ -109,10 +110,10 @@ module _ (form : Form) (limits : Limits) (text : List ℕ) (old new : Option (Li
       λ o. IsOkAnd o (λ s. (m : Machine) × IsRaceOf limits s m × (text ≡ shown form (history_text m) m)) in
       ends Race input r (subst P (sym k) (m, raced, is)) refl e
 
-  pub ends_explore : (about : About) (lost again states : ℕ) (outcome : Option ℕ) (known : Option (List ℕ)) (m : Machine) (r : Result (Unit {0}) ProgramFault) → IsBenchAt limits known m →
-      TellsExplored m (asked_of about lost again states) outcome text → EndsAsText text r old new → EndsAt (Explore about lost again states outcome) form limits known r old new
-  ends_explore about lost again states outcome None m r k told e = tt
-  ends_explore about lost again states outcome (Some input) m r k told e = ends (Explore about lost again states outcome) input r (m, k, told) refl e
+  pub ends_explore : (asked : ExploreOptions) (known : Option (List ℕ)) (m : Machine) (r : Result (Unit {0}) ProgramFault) → IsBenchAt limits known m →
+      TellsExplored m (asked_of asked) asked.outcome text → EndsAsText text r old new → EndsAt (Explore asked) form limits known r old new
+  ends_explore asked None m r k told e = tt
+  ends_explore asked (Some input) m r k told e = ends (Explore asked) input r (m, k, told) refl e
 
   -- a text that goes out meets no fault but that of a write
   pub keeps_before : (r : Result (Unit {0}) ProgramFault) → EndsAsText text r old new → IfErr r (λ fault. KeepsBefore fault old new)
@@ -225,13 +226,13 @@ module _ (form : Form) (limits : Limits) (known old : Option (List ℕ)) where
       go None cause = tt
       go (Some input) cause = cause_ends Page form limits input fault old cause before
 
-  pub refused_whatif : (question : Question) (change : Option ℕ) (fault : ProgramFault) → RefusesBenchAt known fault → IsUnwritten fault →
-      EndsAt (Whatif question change) form limits known (Err fault) old old
-  refused_whatif question change fault cause before = go known cause
+  pub refused_whatif : (asked : WhatifOptions) (fault : ProgramFault) → RefusesBenchAt known fault → IsUnwritten fault →
+      EndsAt (Whatif asked) form limits known (Err fault) old old
+  refused_whatif asked fault cause before = go known cause
     where
-      go : (known : Option (List ℕ)) → RefusesBenchAt known fault → EndsAt (Whatif question change) form limits known (Err fault) old old
+      go : (known : Option (List ℕ)) → RefusesBenchAt known fault → EndsAt (Whatif asked) form limits known (Err fault) old old
       go None cause = tt
-      go (Some input) cause = cause_ends (Whatif question change) form limits input fault old (inl cause) before
+      go (Some input) cause = cause_ends (Whatif asked) form limits input fault old (inl cause) before
 
   pub asked_explain : (question : Question) (m : Machine) (fault : AskFault) → IsBenchAt limits known m → RefusesQuestion m (question_of question) fault →
       EndsAt (Explain question) form limits known (Err (fault_of_ask fault)) old old
@@ -261,35 +262,35 @@ module _ (form : Form) (limits : Limits) (known old : Option (List ℕ)) where
       go None is = tt
       go (Some input) is = cause input fault is refused
 
-  pub asked_whatif : (question : Question) (change : Option ℕ) (m : Machine) (fault : WhatifFault) → IsBenchAt limits known m → RefusesWhatif m question change fault →
-      EndsAt (Whatif question change) form limits known (Err (fault_of_whatif fault)) old old
-  asked_whatif question change m fault is refused = go known is
+  pub asked_whatif : (asked : WhatifOptions) (m : Machine) (fault : WhatifFault) → IsBenchAt limits known m → RefusesWhatif m asked.question asked.change fault →
+      EndsAt (Whatif asked) form limits known (Err (fault_of_whatif fault)) old old
+  asked_whatif asked m fault is refused = go known is
     where
-      cause : (input : List ℕ) (fault : WhatifFault) → IsBenchOf limits input m → RefusesWhatif m question change fault →
-          Ends (Whatif question change) form limits input (Err (fault_of_whatif fault)) old old
+      cause : (input : List ℕ) (fault : WhatifFault) → IsBenchOf limits input m → RefusesWhatif m asked.question asked.change fault →
+          Ends (Whatif asked) form limits input (Err (fault_of_whatif fault)) old old
       cause input whatifs.OutOfMemory is refused = (inl ((λ e. tt), (λ e. tt)), keeps_same old)
       cause input whatifs.NoSuchNode is refused = (inr (m, is, refused), keeps_same old)
       cause input whatifs.NoWord is refused = (inr (m, is, refused), keeps_same old)
       cause input (whatifs.NoSuchChange changes) is refused = (inr (m, is, refused), keeps_same old)
 
-      go : (known : Option (List ℕ)) → IsBenchAt limits known m → EndsAt (Whatif question change) form limits known (Err (fault_of_whatif fault)) old old
+      go : (known : Option (List ℕ)) → IsBenchAt limits known m → EndsAt (Whatif asked) form limits known (Err (fault_of_whatif fault)) old old
       go None is = tt
       go (Some input) is = cause input fault is refused
 
-  pub refused_explore : (about : About) (lost again states : ℕ) (outcome : Option ℕ) (fault : ProgramFault) → RefusesBenchAt known fault → IsUnwritten fault →
-      EndsAt (Explore about lost again states outcome) form limits known (Err fault) old old
-  refused_explore about lost again states outcome fault cause before = go known cause
+  pub refused_explore : (asked : ExploreOptions) (fault : ProgramFault) → RefusesBenchAt known fault → IsUnwritten fault →
+      EndsAt (Explore asked) form limits known (Err fault) old old
+  refused_explore asked fault cause before = go known cause
     where
-      go : (known : Option (List ℕ)) → RefusesBenchAt known fault → EndsAt (Explore about lost again states outcome) form limits known (Err fault) old old
+      go : (known : Option (List ℕ)) → RefusesBenchAt known fault → EndsAt (Explore asked) form limits known (Err fault) old old
       go None cause = tt
-      go (Some input) cause = cause_ends (Explore about lost again states outcome) form limits input fault old (inl cause) before
+      go (Some input) cause = cause_ends (Explore asked) form limits input fault old (inl cause) before
 
-  pub asked_explore : (about : About) (lost again states : ℕ) (outcome : Option ℕ) (m : Machine) (fault : ReportFault) → IsBenchAt limits known m →
-      RefusesExplored m (asked_of about lost again states) outcome fault → EndsAt (Explore about lost again states outcome) form limits known (Err (fault_of_explore fault)) old old
-  asked_explore about lost again states outcome m fault is refused = go known is
+  pub asked_explore : (asked : ExploreOptions) (m : Machine) (fault : ReportFault) → IsBenchAt limits known m →
+      RefusesExplored m (asked_of asked) asked.outcome fault → EndsAt (Explore asked) form limits known (Err (fault_of_explore fault)) old old
+  asked_explore asked m fault is refused = go known is
     where
-      cause : (input : List ℕ) (fault : ReportFault) → IsBenchOf limits input m → RefusesExplored m (asked_of about lost again states) outcome fault →
-          Ends (Explore about lost again states outcome) form limits input (Err (fault_of_explore fault)) old old
+      cause : (input : List ℕ) (fault : ReportFault) → IsBenchOf limits input m → RefusesExplored m (asked_of asked) asked.outcome fault →
+          Ends (Explore asked) form limits input (Err (fault_of_explore fault)) old old
       cause input reports.OutOfMemory is refused = (inl ((λ e. tt), (λ e. tt)), keeps_same old)
       cause input reports.NoSuchNode is refused = (inr (m, is, refused), keeps_same old)
       cause input reports.NoWord is refused = (inr (m, is, refused), keeps_same old)
@@ -298,7 +299,7 @@ module _ (form : Form) (limits : Limits) (known old : Option (List ℕ)) where
       cause input reports.TooManySteps is refused = (inr (m, is, refused), keeps_same old)
       cause input (reports.NoSuchOutcome there_are) is refused = (inr (m, is, refused), keeps_same old)
 
-      go : (known : Option (List ℕ)) → IsBenchAt limits known m → EndsAt (Explore about lost again states outcome) form limits known (Err (fault_of_explore fault)) old old
+      go : (known : Option (List ℕ)) → IsBenchAt limits known m → EndsAt (Explore asked) form limits known (Err (fault_of_explore fault)) old old
       go None is = tt
       go (Some input) is = cause input fault is refused
 

@@ -23,13 +23,13 @@ pub announces : (command : Subcommand) (old new : Option (List ℕ)) → command
 announces (Play strict) old new other told = told
 announces Race old new other told = told
 announces (Load strict) old new other told = told
-announces (Import check lines lenient) old new other told = told
-announces (Explore about lost again states outcome) old new other told = told
+announces (Import wanted) old new other told = told
+announces (Explore asked) old new other told = told
 announces Step old new other told = absurd (other refl)
 announces (Draw drawing) old new other told = told
 announces Page old new other told = told
 announces (Explain question) old new other told = told
-announces (Whatif question change) old new other told = told
+announces (Whatif asked) old new other told = told
 
 pub beside : (terminal : Bool) (limits : Limits) (command : Subcommand) (form : Form) (input old middle new : Option (List ℕ)) → Announces terminal command old middle →
     TellsOn terminal limits command form input middle new → TellsBeside terminal limits command form input old new
@@ -39,24 +39,24 @@ beside false limits command form input old middle new same told = plain command 
     plain (Play strict) t = subst (λ (o : Option (List ℕ)). TellsAside (Play strict) form limits input o new) same t
     plain Race t = subst (λ (o : Option (List ℕ)). TellsAside Race form limits input o new) same t
     plain (Load strict) t = subst (λ (o : Option (List ℕ)). TellsAside (Load strict) form limits input o new) same t
-    plain (Import check lines lenient) t = subst (λ (o : Option (List ℕ)). TellsAside (Import check lines lenient) form limits input o new) same t
-    plain (Explore about lost again states outcome) t =
-        subst (λ (o : Option (List ℕ)). TellsAside (Explore about lost again states outcome) form limits input o new) same t
+    plain (Import wanted) t = subst (λ (o : Option (List ℕ)). TellsAside (Import wanted) form limits input o new) same t
+    plain (Explore asked) t =
+        subst (λ (o : Option (List ℕ)). TellsAside (Explore asked) form limits input o new) same t
     plain Step t = subst (λ (o : Option (List ℕ)). TellsAside Step form limits input o new) same t
     plain (Draw drawing) t = subst (λ (o : Option (List ℕ)). TellsAside (Draw drawing) form limits input o new) same t
     plain Page t = subst (λ (o : Option (List ℕ)). TellsAside Page form limits input o new) same t
     plain (Explain question) t = subst (λ (o : Option (List ℕ)). TellsAside (Explain question) form limits input o new) same t
-    plain (Whatif question change) t = subst (λ (o : Option (List ℕ)). TellsAside (Whatif question change) form limits input o new) same t
+    plain (Whatif asked) t = subst (λ (o : Option (List ℕ)). TellsAside (Whatif asked) form limits input o new) same t
 beside true limits (Play strict) form input old middle new announced told = (middle, announced, told)
 beside true limits Race form input old middle new announced told = (middle, announced, told)
 beside true limits (Load strict) form input old middle new announced told = (middle, announced, told)
-beside true limits (Import check lines lenient) form input old middle new announced told = (middle, announced, told)
-beside true limits (Explore about lost again states outcome) form input old middle new announced told = (middle, announced, told)
+beside true limits (Import wanted) form input old middle new announced told = (middle, announced, told)
+beside true limits (Explore asked) form input old middle new announced told = (middle, announced, told)
 beside true limits Step form input old middle new same told = subst (λ (o : Option (List ℕ)). TellsBeside true limits Step form input o new) same told
 beside true limits (Draw drawing) form input old middle new announced told = (middle, announced, told)
 beside true limits Page form input old middle new announced told = (middle, announced, told)
 beside true limits (Explain question) form input old middle new announced told = (middle, announced, told)
-beside true limits (Whatif question change) form input old middle new announced told = (middle, announced, told)
+beside true limits (Whatif asked) form input old middle new announced told = (middle, announced, told)
 
 -- what is told behind the line that announces
 
@@ -219,14 +219,14 @@ never_refuses terminal limits command form input old middle new lost act before 
     whole (Play strict) known e = tt
     whole Race known e = tt
     whole (Load strict) known e = tt
-    whole (Import check lines lenient) None e = tt
-    whole (Import check lines lenient) (Some bytes) e = absurd (subst is_some e.3 tt)
-    whole (Explore about dropped again states outcome) known e = tt
+    whole (Import wanted) None e = tt
+    whole (Import wanted) (Some bytes) e = absurd (subst is_some e.3 tt)
+    whole (Explore asked) known e = tt
     whole Step known e = tt
     whole (Draw drawing) known e = tt
     whole Page known e = tt
     whole (Explain question) known e = tt
-    whole (Whatif question change) known e = tt
+    whole (Whatif asked) known e = tt
 
 -- what was told at an end, if nothing is told of it behind that
 pub told_at_end : (terminal : Bool) (limits : Limits) (command : Subcommand) (form : Form) (input old new last : Option (List ℕ)) (lost : Bool)

@@ -3,6 +3,7 @@ use Rattle.std.specs.Prelude.{ℕ, List, Option, None, Some}
 use Rattle.bench_core.specs.Machine.{Machine}
 use Rattle.command_line.specs.declared.chosen.About.{About as Chosen}
 use Rattle.command_line.specs.declared.chosen.About.TheVariants as chosen
+use Rattle.command_line.specs.declared.chosen.ExploreOptions.{ExploreOptions}
 use Rattle.explore_report.specs.Questions.{TellsOutcomes, IsRun, Refuses, RefusesRun}
 use Rattle.explore_report.specs.declared.question.About.{About}
 use Rattle.explore_report.specs.declared.question.About.TheVariants as abouts
@@ -18,9 +19,9 @@ about_of chosen.Cluster = abouts.Cluster
 about_of (chosen.Node node) = abouts.Node node
 about_of (chosen.Presence question) = abouts.Presence question.node question.topic question.key
 
--- the whole question of an exploration
-abbrev pub asked_of : Chosen → ℕ → ℕ → ℕ → Question
-asked_of about lost again states = record { about = about_of about; lost = lost; again = again; states = states }
+-- the question of an exploration
+abbrev pub asked_of : ExploreOptions → Question
+asked_of asked = record { about = about_of asked.about; lost = asked.lost; again = asked.again; states = asked.states }
 
 -- the text tells the outcomes, or is the run of the outcome with this number
 abbrev pub TellsExplored : Machine → Question → Option ℕ → List ℕ → Type 0

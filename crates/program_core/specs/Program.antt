@@ -201,14 +201,14 @@ abbrev pub IsCauseOf : Subcommand → Form → Limits → List ℕ → ProgramFa
 IsCauseOf Race form limits input fault = RefusesScript input fault ⊎ IsOkAnd (script_of input) (λ s. RefusesRaceOf limits s fault)
 IsCauseOf (Play strict) form limits input fault = RefusesScript input fault
 IsCauseOf (Load strict) form limits input fault = RefusesSession input fault
-IsCauseOf (Import check lines lenient) form limits input fault = RefusesImport check lines lenient form limits input fault
-IsCauseOf (Explore about lost again states outcome) form limits input fault =
-    RefusesBench input fault ⊎ RefusesNetwork limits (asked_of about lost again states) outcome input fault
+IsCauseOf (Import wanted) form limits input fault = RefusesImport wanted.check wanted.lines wanted.lenient form limits input fault
+IsCauseOf (Explore asked) form limits input fault =
+    RefusesBench input fault ⊎ RefusesNetwork limits (asked_of asked) asked.outcome input fault
 IsCauseOf Step form limits input fault = ⊥
 IsCauseOf (Draw drawing) form limits input fault = RefusesBench input fault ⊎ RefusesDrawn limits (view_of drawing) input fault
 IsCauseOf Page form limits input fault = RefusesBench input fault
 IsCauseOf (Explain question) form limits input fault = RefusesBench input fault ⊎ RefusesAsked limits question input fault
-IsCauseOf (Whatif question change) form limits input fault = RefusesBench input fault ⊎ RefusesChanges limits question change input fault
+IsCauseOf (Whatif asked) form limits input fault = RefusesBench input fault ⊎ RefusesChanges limits asked.question asked.change input fault
 
 -- what refuses the input of a command, if the reader's bytes are known
 
@@ -242,30 +242,30 @@ shown _ report bench = report
 abbrev pub Prints : Subcommand → Form → Limits → List ℕ → List ℕ → Type 0
 Prints (Play strict) form limits input text = IsOkAnd (script_of input) (λ s. PrintsPlay form limits s text)
 Prints Race form limits input text = IsOkAnd (script_of input) (λ s. (m : Machine) × IsRaceOf limits s m × (text ≡ shown form (history_text m) m))
-Prints (Import check lines lenient) form limits input text = PrintsImport check lines lenient form limits input false text
+Prints (Import wanted) form limits input text = PrintsImport wanted.check wanted.lines wanted.lenient form limits input false text
 Prints (Load strict) form limits input text = (m : Machine) × IsSession input m × PrintsBench form m text
-Prints (Explore about lost again states outcome) form limits input text =
-    (m : Machine) × IsBenchOf limits input m × TellsExplored m (asked_of about lost again states) outcome text
+Prints (Explore asked) form limits input text =
+    (m : Machine) × IsBenchOf limits input m × TellsExplored m (asked_of asked) asked.outcome text
 Prints Step form limits input text =
     (text ≡ printed language limits input) × IfOk (script_of input) (λ s. text ≡ report_of limits s)
 Prints (Draw drawing) form limits input text =
     (m : Machine) × (consoles : Texts) × IsRunOf limits input m consoles × IsPicture m consoles (view_of drawing) text
 Prints Page form limits input text = (m : Machine) × (consoles : Texts) × IsRunOf limits input m consoles × (text ≡ page_of m consoles)
 Prints (Explain question) form limits input text = (m : Machine) × IsBenchOf limits input m × IsExplanation m (question_of question) text
-Prints (Whatif question change) form limits input text = (m : Machine) × IsBenchOf limits input m × TellsWhatif m question change text
+Prints (Whatif asked) form limits input text = (m : Machine) × IsBenchOf limits input m × TellsWhatif m asked.question asked.change text
 
 -- the text says that the bench and the real nodes part
 abbrev pub PrintsApart : Subcommand → Form → Limits → List ℕ → List ℕ → Type 0
-PrintsApart (Import check lines lenient) form limits input text = PrintsImport check lines lenient form limits input true text
+PrintsApart (Import wanted) form limits input text = PrintsImport wanted.check wanted.lines wanted.lenient form limits input true text
 PrintsApart (Play strict) form limits input text = ⊥
 PrintsApart Race form limits input text = ⊥
 PrintsApart (Load strict) form limits input text = ⊥
-PrintsApart (Explore about lost again states outcome) form limits input text = ⊥
+PrintsApart (Explore asked) form limits input text = ⊥
 PrintsApart Step form limits input text = ⊥
 PrintsApart (Draw drawing) form limits input text = ⊥
 PrintsApart Page form limits input text = ⊥
 PrintsApart (Explain question) form limits input text = ⊥
-PrintsApart (Whatif question change) form limits input text = ⊥
+PrintsApart (Whatif asked) form limits input text = ⊥
 
 -- all of the text went out; or, if the writing failed, its first `written` bytes
 abbrev pub EndsAsText : List ℕ → Result (Unit {0}) ProgramFault → Option (List ℕ) → Option (List ℕ) → Type 0
@@ -278,26 +278,26 @@ abbrev pub HasPrompt : Subcommand → Type 0
 HasPrompt (Play strict) = ⊥
 HasPrompt Race = ⊥
 HasPrompt (Load strict) = ⊥
-HasPrompt (Import check lines lenient) = ⊥
-HasPrompt (Explore about lost again states outcome) = ⊥
+HasPrompt (Import wanted) = ⊥
+HasPrompt (Explore asked) = ⊥
 HasPrompt Step = ⊤
 HasPrompt (Draw drawing) = ⊥
 HasPrompt Page = ⊥
 HasPrompt (Explain question) = ⊥
-HasPrompt (Whatif question change) = ⊥
+HasPrompt (Whatif asked) = ⊥
 
 -- the first act that was refused, if that is a fault
 abbrev pub Tells : Subcommand → Limits → List ℕ → Option Refused → Type 0
 Tells (Play strict) limits input refused = IsOkAnd (script_of input) (λ s. refused ≡ refused_line strict limits s)
 Tells (Load strict) limits input refused = (m : Machine) × IsSession input m × (refused ≡ refused_act strict m)
-Tells (Import check lines lenient) limits input refused = refused ≡ None
+Tells (Import wanted) limits input refused = refused ≡ None
 Tells Race limits input refused = refused ≡ None
-Tells (Explore about lost again states outcome) limits input refused = refused ≡ None
+Tells (Explore asked) limits input refused = refused ≡ None
 Tells Step limits input refused = refused ≡ None
 Tells (Draw drawing) limits input refused = refused ≡ None
 Tells Page limits input refused = refused ≡ None
 Tells (Explain question) limits input refused = refused ≡ None
-Tells (Whatif question change) limits input refused = refused ≡ None
+Tells (Whatif asked) limits input refused = refused ≡ None
 
 -- the calls of the input's bench are no script, and one was asked for
 abbrev pub IsUntold : Subcommand → Form → Limits → List ℕ → TranscriptFault → Type 0
@@ -340,12 +340,12 @@ EndsSoon Step limits result input left old new = ⊤
 EndsSoon (Play strict) limits result input left old new = ⊤
 EndsSoon Race limits result input left old new = ⊤
 EndsSoon (Load strict) limits result input left old new = ⊤
-EndsSoon (Import check lines lenient) limits result input left old new = ⊤
-EndsSoon (Explore about lost again states outcome) limits result input left old new = ⊤
+EndsSoon (Import wanted) limits result input left old new = ⊤
+EndsSoon (Explore asked) limits result input left old new = ⊤
 EndsSoon (Draw drawing) limits result input left old new = ⊤
 EndsSoon Page limits result input left old new = ⊤
 EndsSoon (Explain question) limits result input left old new = ⊤
-EndsSoon (Whatif question change) limits result input left old new = ⊤
+EndsSoon (Whatif asked) limits result input left old new = ⊤
 
 -- the fault is none of a write, of a prompt, of a refused act, of calls that are no script, or of a check
 abbrev pub IsUnwritten : ProgramFault → Type 0
@@ -376,16 +376,16 @@ FailsAs _ old new = new.failed ≡ old.failed
 
 -- to the errors went nothing; or, for the events of logs, what isn't in the text, and for long work, how far it has come
 abbrev pub TellsAside : Subcommand → Form → Limits → Option (List ℕ) → Option (List ℕ) → Option (List ℕ) → Type 0
-TellsAside (Import check lines lenient) form limits input old new = TellsMissing check lines lenient form limits input old new
+TellsAside (Import wanted) form limits input old new = TellsMissing wanted.check wanted.lines wanted.lenient form limits input old new
 TellsAside (Play strict) form limits input old new = Keeps old new
 TellsAside Race form limits input old new = Keeps old new
 TellsAside (Load strict) form limits input old new = Keeps old new
-TellsAside (Explore about lost again states outcome) form limits input old new = TellsWalked old new
+TellsAside (Explore asked) form limits input old new = TellsWalked old new
 TellsAside Step form limits input old new = Keeps old new
 TellsAside (Draw drawing) form limits input old new = Keeps old new
 TellsAside Page form limits input old new = Keeps old new
 TellsAside (Explain question) form limits input old new = Keeps old new
-TellsAside (Whatif question change) form limits input old new = TellsTried old new
+TellsAside (Whatif asked) form limits input old new = TellsTried old new
 
 -- the outcome is a fault that came before anything was printed
 abbrev pub IsEarly : Result (Unit {0}) ProgramFault → Type 0
@@ -394,29 +394,29 @@ IsEarly (Err fault) = IsUnwritten fault
 
 -- to the errors went all lines that tell what is missing from an import, unless a write failed
 abbrev pub TellsWhole : Subcommand → Form → Limits → Option (List ℕ) → Bool → Option (List ℕ) → Option (List ℕ) → Type 0
-TellsWhole (Import check lines lenient) form limits input lost old new = TellsMade check lines lenient form limits input lost old new
+TellsWhole (Import wanted) form limits input lost old new = TellsMade wanted.check wanted.lines wanted.lenient form limits input lost old new
 TellsWhole (Play strict) form limits input lost old new = ⊤
 TellsWhole Race form limits input lost old new = ⊤
 TellsWhole (Load strict) form limits input lost old new = ⊤
-TellsWhole (Explore about dropped again states outcome) form limits input lost old new = ⊤
+TellsWhole (Explore asked) form limits input lost old new = ⊤
 TellsWhole Step form limits input lost old new = ⊤
 TellsWhole (Draw drawing) form limits input lost old new = ⊤
 TellsWhole Page form limits input lost old new = ⊤
 TellsWhole (Explain question) form limits input lost old new = ⊤
-TellsWhole (Whatif question change) form limits input lost old new = ⊤
+TellsWhole (Whatif asked) form limits input lost old new = ⊤
 
 -- the word that chooses a command
 abbrev pub word_of : Subcommand → List ℕ
 word_of (Play strict) = codes "play"
 word_of Race = codes "race"
 word_of (Load strict) = codes "load"
-word_of (Import check lines lenient) = codes "import"
-word_of (Explore about lost again states outcome) = codes "explore"
+word_of (Import wanted) = codes "import"
+word_of (Explore asked) = codes "explore"
 word_of Step = codes "step"
 word_of (Draw drawing) = codes "draw"
 word_of Page = codes "page"
 word_of (Explain question) = codes "explain"
-word_of (Whatif question change) = codes "whatif"
+word_of (Whatif asked) = codes "whatif"
 
 -- `presence_bench: reads standard input: presence_bench COMMAND < FILE`
 unfoldable pub input_line : Subcommand → List ℕ

@@ -4,23 +4,10 @@ ghost use Rattle.program_core.specs.Explored.{RefusesExplored, TellsExplored, ab
 ghost use Rattle.progress_core.specs.Watches.{Watched};
 
 use bench_core::Bench;
+use command_line::ExploreOptions;
 use explore_report::{About, Question, ReportFault, explore_asked, run_of_outcome};
 use progress_core::{Walked, Watch};
 use std::alloc::Allocator;
-
-/// The exploration that was chosen.
-#[derive(Clone, Copy)]
-pub struct Exploration<'w> {
-    pub about: command_line::About<'w>,
-    /// How many deliveries may be missing.
-    pub lost: usize,
-    /// How many deliveries may come a second time.
-    pub again: usize,
-    /// How many states may be kept.
-    pub states: usize,
-    /// The number of the outcome whose run is wanted; `None` for the outcomes themselves.
-    pub outcome: Option<u64>,
-}
 
 /// What the chosen exploration is about, as `explore_report` takes it.
 fn about_of<'w>(chosen: command_line::About<'w>) -> About<'w>
@@ -36,8 +23,8 @@ fn about_of<'w>(chosen: command_line::About<'w>) -> About<'w>
 }
 
 /// The exploration that was chosen, as `explore_report` takes it.
-fn asked_of<'w>(asked: Exploration<'w>) -> Question<'w>
-    ensures { result ≡ asked_of asked.entry.about asked.entry.lost asked.entry.again asked.entry.states }
+fn asked_of<'w>(asked: ExploreOptions<'w>) -> Question<'w>
+    ensures { result ≡ asked_of asked.entry }
 {
     Question {
         about: about_of(asked.about),
@@ -52,12 +39,12 @@ fn asked_of<'w>(asked: Exploration<'w>) -> Question<'w>
 pub fn tell_explored<'a, B: Allocator, W: Watch<Walked>>(
     bench: &mut Bench<'a, B>,
     alloc: &'a B,
-    asked: Exploration<'_>,
+    asked: ExploreOptions<'_>,
     watch: &mut W,
 ) -> Result<String<&'a B>, ReportFault>
-    ensures told { IfOk result (λ text. TellsExplored bench.old (asked_of asked.entry.about asked.entry.lost asked.entry.again asked.entry.states)
+    ensures told { IfOk result (λ text. TellsExplored bench.old (asked_of asked.entry)
         asked.entry.outcome (string_bytes text)) }
-    ensures refused { IfErr result (RefusesExplored bench.old (asked_of asked.entry.about asked.entry.lost asked.entry.again asked.entry.states)
+    ensures refused { IfErr result (RefusesExplored bench.old (asked_of asked.entry)
         asked.entry.outcome) }
     ensures watched { Watched W.told watch.old watch.new }
 {

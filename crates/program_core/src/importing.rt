@@ -16,7 +16,7 @@ use crate::pages::page_with;
 use crate::text::{Text, bytes_of, print};
 use crate::texts::{LONGEST_SESSION, session_line};
 use bench_core::{Bench, Limits};
-use command_line::Form;
+use command_line::{Form, ImportOptions};
 use import_core::{FaultKind, ImportFault};
 use import_page::{Shown, import_shown};
 use import_report::{Checked, Scripted, import_bench, import_check, import_script};
@@ -145,15 +145,10 @@ fn is_full<'a, B: Allocator>(bench: &mut Bench<'a, B>) -> bool
         < 2
 }
 
-/// What the command line chose to be made from logs.
+/// What an import is to make, and in which form.
 #[derive(Clone, Copy)]
-pub struct ImportOptions {
-    /// Whether to tell where the bench and the real nodes part.
-    pub check: bool,
-    /// Whether comments in the script tell the events' line numbers in the logs.
-    pub lines: bool,
-    /// Whether events that take a message which was never sent are left out.
-    pub lenient: bool,
+pub struct Wanted {
+    pub options: ImportOptions,
     pub form: Form,
 }
 
@@ -162,19 +157,19 @@ fn make_script<'a, B: Allocator>(
     heap: Global,
     alloc: &'a B,
     limits: Limits,
-    wanted: ImportOptions,
+    wanted: Wanted,
     input: &[u8],
 ) -> Result<Made<&'a B>, ImportFault>
-    ensures made { IfOk result (λ m. IsMade false wanted.lines wanted.lenient forms.Script limits input.now (text_bytes m.text) m.differs
+    ensures made { IfOk result (λ m. IsMade false wanted.options.lines wanted.options.lenient forms.Script limits input.now (text_bytes m.text) m.differs
         m.left_out.items m.full) }
-    ensures refused { IfErr result (IsUnmade false wanted.lines wanted.lenient forms.Script limits input.now) }
+    ensures refused { IfErr result (IsUnmade false wanted.options.lines wanted.options.lenient forms.Script limits input.now) }
 {
     let (scripted, left_out) = import_script(
         heap,
         alloc,
         limits,
-        wanted.lenient,
-        wanted.lines,
+        wanted.options.lenient,
+        wanted.options.lines,
         input,
     )?;
     Ok(Made {
@@ -197,15 +192,15 @@ fn make_session<'a, B: Allocator>(
     heap: Global,
     alloc: &'a B,
     limits: Limits,
-    wanted: ImportOptions,
+    wanted: Wanted,
     input: &[u8],
 ) -> Result<Made<&'a B>, ImportFault>
-    ensures made { IfOk result (λ m. IsMade false wanted.lines wanted.lenient forms.Session limits input.now (text_bytes m.text) m.differs
+    ensures made { IfOk result (λ m. IsMade false wanted.options.lines wanted.options.lenient forms.Session limits input.now (text_bytes m.text) m.differs
         m.left_out.items m.full) }
-    ensures refused { IfErr result (IsUnmade false wanted.lines wanted.lenient forms.Session limits input.now) }
+    ensures refused { IfErr result (IsUnmade false wanted.options.lines wanted.options.lenient forms.Session limits input.now) }
 {
-    // form: `wanted.lines` is for the contract alone
-    let (mut bench, left_out) = import_bench(heap, alloc, limits, wanted.lenient, input)?;
+    // form: `wanted.options.lines` is for the contract alone
+    let (mut bench, left_out) = import_bench(heap, alloc, limits, wanted.options.lenient, input)?;
     let text = session_line(heap, &mut bench);
     let full = is_full(&mut bench);
     // form: drop before exit
@@ -223,15 +218,15 @@ fn make_page<'a, B: Allocator>(
     heap: Global,
     alloc: &'a B,
     limits: Limits,
-    wanted: ImportOptions,
+    wanted: Wanted,
     input: &[u8],
 ) -> Result<Made<&'a B>, ImportFault>
-    ensures made { IfOk result (λ m. IsMade false wanted.lines wanted.lenient forms.Page limits input.now (text_bytes m.text) m.differs
+    ensures made { IfOk result (λ m. IsMade false wanted.options.lines wanted.options.lenient forms.Page limits input.now (text_bytes m.text) m.differs
         m.left_out.items m.full) }
-    ensures refused { IfErr result (IsUnmade false wanted.lines wanted.lenient forms.Page limits input.now) }
+    ensures refused { IfErr result (IsUnmade false wanted.options.lines wanted.options.lenient forms.Page limits input.now) }
 {
-    // form: `wanted.lines` is for the contract alone
-    let (shown, left_out) = import_shown(heap, alloc, limits, wanted.lenient, input)?;
+    // form: `wanted.options.lines` is for the contract alone
+    let (shown, left_out) = import_shown(heap, alloc, limits, wanted.options.lenient, input)?;
     let Shown { mut bench, keys } = shown;
     let page = page_with(&mut bench, alloc, keys.as_str());
     let full = is_full(&mut bench);
@@ -251,15 +246,15 @@ fn make_check<'a, B: Allocator>(
     heap: Global,
     alloc: &'a B,
     limits: Limits,
-    wanted: ImportOptions,
+    wanted: Wanted,
     input: &[u8],
 ) -> Result<Made<&'a B>, ImportFault>
-    ensures made { IfOk result (λ m. IsMade true wanted.lines wanted.lenient wanted.form limits input.now (text_bytes m.text) m.differs
+    ensures made { IfOk result (λ m. IsMade true wanted.options.lines wanted.options.lenient wanted.form limits input.now (text_bytes m.text) m.differs
         m.left_out.items m.full) }
-    ensures refused { IfErr result (IsUnmade true wanted.lines wanted.lenient wanted.form limits input.now) }
+    ensures refused { IfErr result (IsUnmade true wanted.options.lines wanted.options.lenient wanted.form limits input.now) }
 {
-    // form: `wanted.lines` and `wanted.form` are for the contract alone
-    let (found, left_out) = import_check(heap, alloc, limits, wanted.lenient, input)?;
+    // form: `wanted.options.lines` and `wanted.form` are for the contract alone
+    let (found, left_out) = import_check(heap, alloc, limits, wanted.options.lenient, input)?;
     let Checked { text, differs } = found;
     Ok(Made {
         text: Text::Own(text.into_bytes()),
@@ -274,19 +269,19 @@ fn make<'a, B: Allocator>(
     heap: Global,
     alloc: &'a B,
     limits: Limits,
-    wanted: ImportOptions,
+    wanted: Wanted,
     input: &[u8],
     aside: &mut Aside,
 ) -> Result<Made<&'a B>, ProgramFault>
-    ensures made { IfOk result (λ m. IsMade wanted.check wanted.lines wanted.lenient wanted.form limits input.now (text_bytes m.text) m.differs
+    ensures made { IfOk result (λ m. IsMade wanted.options.check wanted.options.lines wanted.options.lenient wanted.form limits input.now (text_bytes m.text) m.differs
         m.left_out.items m.full) }
-    ensures refused { IfErr result (RefusesImport wanted.check wanted.lines wanted.lenient wanted.form limits input.now) }
+    ensures refused { IfErr result (RefusesImport wanted.options.check wanted.options.lines wanted.options.lenient wanted.form limits input.now) }
     ensures memory { IfErr result TellsMemory }
     ensures unwritten { IfErr result IsUnwritten }
     ensures unread { result ≢ Err ProgramFault.ReadFault }
 {
     let made = match wanted.form {
-        _ if wanted.check => make_check(heap, alloc, limits, wanted, input),
+        _ if wanted.options.check => make_check(heap, alloc, limits, wanted, input),
         Form::Session => make_session(heap, alloc, limits, wanted, input),
         Form::Page => make_page(heap, alloc, limits, wanted, input),
         _ => make_script(heap, alloc, limits, wanted, input),
@@ -316,22 +311,22 @@ fn print_made<B: Allocator, W: Write>(writer: &mut W, made: &Made<&B>) -> Result
 /// be written. If the events are refused, `notes` gets the hint, if there is one.
 pub fn import_events<B: Allocator, T, C, R: Read, W: Write, E: Write, L: Ledger>(
     setting: &Setting<'_, B, T, C>,
-    wanted: ImportOptions,
+    wanted: Wanted,
     reader: &mut R,
     writer: &mut W,
     errors: &mut E,
     notes: &mut Notes<R, E, L>,
 ) -> Result<(), ProgramFault>
-    ensures ends { EndsAt (subcommands.Import wanted.check wanted.lines wanted.lenient) wanted.form setting.now.limits (R.remaining reader.old) result
+    ensures ends { EndsAt (subcommands.Import wanted.options) wanted.form setting.now.limits (R.remaining reader.old) result
         (W.contents writer.old) (W.contents writer.new) }
     ensures read { OnOk result (IsAtEnd (R.remaining reader.new)) }
     ensures unwritten { IfErr result (λ fault. KeepsBefore fault (W.contents writer.old) (W.contents writer.new)) }
     ensures memory { IfErr result TellsMemory }
     ensures failed { FailsAs result notes.old.steps notes.new.steps }
-    ensures aside { TellsMissing wanted.check wanted.lines wanted.lenient wanted.form setting.now.limits (R.remaining reader.old)
+    ensures aside { TellsMissing wanted.options.check wanted.options.lines wanted.options.lenient wanted.form setting.now.limits (R.remaining reader.old)
         (E.contents errors.old) (E.contents errors.new) }
     ensures told { IsEarly result ⊎
-        TellsMade wanted.check wanted.lines wanted.lenient wanted.form setting.now.limits (R.remaining reader.old) notes.new.lost (E.contents errors.old)
+        TellsMade wanted.options.check wanted.options.lines wanted.options.lenient wanted.form setting.now.limits (R.remaining reader.old) notes.new.lost (E.contents errors.old)
         (E.contents errors.new) }
 {
     let heap = setting.host.heap;

@@ -8,10 +8,10 @@ ghost use Rattle.progress_core.specs.Lines.{TellsTried, TellsWalked};
 ghost use Rattle.run_core.specs.Report.{history_text};
 ghost use Rattle.program_core.specs.Program.{EndsAt, EndsSoon, FailsAs, IsEarly, IsReadBy, KeepsBefore, TellsMemory, TellsOn, TellsWhole, question_of};
 
-use crate::exploring::{Exploration, tell_explored};
+use crate::exploring::tell_explored;
 use crate::fault::ProgramFault;
 use crate::host::Setting;
-use crate::importing::{ImportOptions, import_events};
+use crate::importing::{Wanted, import_events};
 use crate::inputs::read_bench;
 use crate::notes::Notes;
 use crate::pages::page_run;
@@ -21,9 +21,9 @@ use crate::shown::{load_shown, play_shown};
 use crate::stepping::step_script;
 use crate::text::print;
 use crate::texts::{read_script, session_line};
-use crate::whatifs::{Whatif, tell_whatif};
+use crate::whatifs::tell_whatif;
 use bench_core::Bench;
-use command_line::{Choice, Form, Subcommand};
+use command_line::{Choice, ExploreOptions, Form, Subcommand, WhatifOptions};
 use explain_core::{Question, explain_asked};
 use payload_core::Oom;
 use progress_core::Teller;
@@ -147,14 +147,14 @@ fn explain_bench<B: Allocator, T, C, R: Read, W: Write, E, L: Ledger>(
 /// there is one.
 fn tell_changes<B: Allocator, T, C: Clock, R: Read, W: Write, E: Write, L: Ledger>(
     setting: &Setting<'_, B, T, C>,
-    asked: Whatif<'_>,
+    asked: WhatifOptions<'_>,
     reader: &mut R,
     writer: &mut W,
     errors: &mut E,
     notes: &mut Notes<R, E, L>,
 ) -> Result<(), ProgramFault>
-    ensures ends { (form : Form) → EndsAt (subcommands.Whatif asked.entry.question asked.entry.change) form setting.now.limits (R.remaining reader.old) result
-        (W.contents writer.old) (W.contents writer.new) }
+    ensures ends { (form : Form) → EndsAt (subcommands.Whatif asked.entry) form setting.now.limits (R.remaining reader.old) result (W.contents writer.old)
+        (W.contents writer.new) }
     ensures read { OnOk result (IsAtEnd (R.remaining reader.new)) }
     ensures unwritten { IfErr result (λ fault. KeepsBefore fault (W.contents writer.old) (W.contents writer.new)) }
     ensures memory { IfErr result TellsMemory }
@@ -178,14 +178,14 @@ fn tell_changes<B: Allocator, T, C: Clock, R: Read, W: Write, E: Write, L: Ledge
 /// on `errors` tell how far the walk has come. If the input is refused, `notes` gets the hint, if there is one.
 fn explore_bench<B: Allocator, T, C: Clock, R: Read, W: Write, E: Write, L: Ledger>(
     setting: &Setting<'_, B, T, C>,
-    asked: Exploration<'_>,
+    asked: ExploreOptions<'_>,
     reader: &mut R,
     writer: &mut W,
     errors: &mut E,
     notes: &mut Notes<R, E, L>,
 ) -> Result<(), ProgramFault>
-    ensures ends { (form : Form) → EndsAt (subcommands.Explore asked.entry.about asked.entry.lost asked.entry.again asked.entry.states
-        asked.entry.outcome) form setting.now.limits (R.remaining reader.old) result (W.contents writer.old) (W.contents writer.new) }
+    ensures ends { (form : Form) → EndsAt (subcommands.Explore asked.entry) form setting.now.limits (R.remaining reader.old) result (W.contents writer.old)
+        (W.contents writer.new) }
     ensures read { OnOk result (IsAtEnd (R.remaining reader.new)) }
     ensures unwritten { IfErr result (λ fault. KeepsBefore fault (W.contents writer.old) (W.contents writer.new)) }
     ensures memory { IfErr result TellsMemory }
@@ -247,40 +247,12 @@ pub fn carry_out<
         }
         (Subcommand::Race, Form::Session) => race_session(setting, reader, writer, notes),
         (Subcommand::Race, _) => race_report(setting, reader, writer, notes),
-        (
-            Subcommand::Import {
-                check,
-                lines,
-                lenient,
-            },
-            form,
-        ) => {
-            let wanted = ImportOptions {
-                check,
-                lines,
-                lenient,
-                form,
-            };
+        (Subcommand::Import(options), form) => {
+            let wanted = Wanted { options, form };
             import_events(setting, wanted, reader, writer, errors, notes)
         }
         (Subcommand::Step, _) => step_script(setting, reader, writer, errors, &mut notes.steps),
-        (
-            Subcommand::Explore {
-                about,
-                lost,
-                again,
-                states,
-                outcome,
-            },
-            _,
-        ) => {
-            let asked = Exploration {
-                about,
-                lost,
-                again,
-                states,
-                outcome,
-            };
+        (Subcommand::Explore(asked), _) => {
             explore_bench(setting, asked, reader, writer, errors, notes)
         }
         (Subcommand::Draw(drawing), _) => draw_run(setting, drawing, reader, writer, notes),
@@ -288,8 +260,7 @@ pub fn carry_out<
         (Subcommand::Explain(question), _) => {
             explain_bench(setting, question, reader, writer, notes)
         }
-        (Subcommand::Whatif { question, change }, _) => {
-            let asked = Whatif { question, change };
+        (Subcommand::Whatif(asked), _) => {
             tell_changes(setting, asked, reader, writer, errors, notes)
         }
     }

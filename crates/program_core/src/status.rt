@@ -56,13 +56,13 @@ fn word_of(command: Subcommand<'_>) -> &'static str
         Subcommand::Play { .. } => "play",
         Subcommand::Race => "race",
         Subcommand::Load { .. } => "load",
-        Subcommand::Import { .. } => "import",
-        Subcommand::Explore { .. } => "explore",
+        Subcommand::Import(_) => "import",
+        Subcommand::Explore(_) => "explore",
         Subcommand::Step => "step",
         Subcommand::Draw(_) => "draw",
         Subcommand::Page => "page",
         Subcommand::Explain(_) => "explain",
-        Subcommand::Whatif { .. } => "whatif",
+        Subcommand::Whatif(_) => "whatif",
     }
 }
 

@@ -4,17 +4,10 @@ ghost use Rattle.program_core.specs.Whatifs.{RefusesWhatif, TellsWhatif, questio
 ghost use Rattle.progress_core.specs.Watches.{Watched};
 
 use bench_core::Bench;
+use command_line::WhatifOptions;
 use progress_core::{Tried, Watch};
 use std::alloc::Allocator;
 use whatif_report::{Question, WhatifFault, run_with_change, whatif_asked};
-
-/// What `whatif` is asked.
-#[derive(Clone, Copy)]
-pub struct Whatif<'w> {
-    pub question: command_line::Question<'w>,
-    /// The number of the change whose run is wanted; `None` for the changes themselves.
-    pub change: Option<u64>,
-}
 
 /// The question that was chosen, as `whatif_report` takes it.
 fn question_of<'w>(chosen: command_line::Question<'w>) -> Question<'w>
@@ -32,7 +25,7 @@ fn question_of<'w>(chosen: command_line::Question<'w>) -> Question<'w>
 pub fn tell_whatif<'a, B: Allocator, W: Watch<Tried>>(
     bench: &mut Bench<'a, B>,
     alloc: &'a B,
-    asked: Whatif<'_>,
+    asked: WhatifOptions<'_>,
     watch: &mut W,
 ) -> Result<String<&'a B>, WhatifFault>
     ensures told { IfOk result (λ text. TellsWhatif bench.old asked.entry.question asked.entry.change (string_bytes text)) }

@@ -3,7 +3,7 @@
 //! the program prints and its other statuses are cases of `example_tests`.
 use clap::error::ErrorKind;
 use command_line::choice;
-use program_core::{Fault, Host, program, run};
+use program_core::{Host, ProgramFault, program, run};
 use progress_core::FakeClock;
 use script_core::{FakeReader, FakeWriter};
 use std::alloc::{Allocator, Global};
@@ -452,7 +452,7 @@ const RACE_FAULTS: &[(RaceFault, u8, &str)] = &[
 #[test]
 fn the_faults_of_a_race_have_their_status(rt: HostRuntime) {
     for (fault, status, line) in RACE_FAULTS {
-        let fault = Fault::Race(*fault);
+        let fault = ProgramFault::Race(*fault);
         let mut text = String::new(rt.alloc());
         let is_told = write!(text, "{fault}").is_ok() && text.as_str() == *line;
         drop(text);

@@ -16,16 +16,16 @@ returns-in_err-bench-clause-ends g c = λ form. search (rules, refused_explore)
 -- it does, and nothing is told of it
 pub returns-in-Err-clause-ends : goal.returns-in-Err-clause-ends
 returns-in-Err-clause-ends g c = λ form.
-    subst (λ (fault : ProgramFault). EndsAt (Explore c.args.asked.about c.args.asked.lost c.args.asked.again c.args.asked.states c.args.asked.outcome) form c.args.setting.now.limits (g.R.Read.remaining c.args.reader.now) (Err fault)
+    subst (λ (fault : ProgramFault). EndsAt (Explore c.args.asked) form c.args.setting.now.limits (g.R.Read.remaining c.args.reader.now) (Err fault)
     (g.W.Write.contents c.args.writer.now) (g.W.Write.contents c.args.writer.now)) (sym c.from.ensures)
-    (asked_explore form c.args.setting.now.limits (g.R.Read.remaining c.args.reader.now) (g.W.Write.contents c.args.writer.now) c.args.asked.about c.args.asked.lost c.args.asked.again c.args.asked.states c.args.asked.outcome
+    (asked_explore form c.args.setting.now.limits (g.R.Read.remaining c.args.reader.now) (g.W.Write.contents c.args.writer.now) c.args.asked
     c.in_ok-bench.bench c.in-Err.fault c.in_ok-bench.ensures.bench
     c.in-Err.ensures.refused)
 
 pub returns-clause-ends : goal.returns-clause-ends
 returns-clause-ends g c = λ form.
-    ends_explore form c.args.setting.now.limits c.as_bytes.result.now _ _ c.args.asked.about c.args.asked.lost c.args.asked.again c.args.asked.states c.args.asked.outcome _ _ c.print.result c.in_ok-bench.ensures.bench
-    (subst (λ (text : List ℕ). TellsExplored c.in_ok-bench.bench (asked_of c.args.asked.about c.args.asked.lost c.args.asked.again c.args.asked.states) c.args.asked.outcome text)
+    ends_explore form c.args.setting.now.limits c.as_bytes.result.now _ _ c.args.asked _ _ c.print.result c.in_ok-bench.ensures.bench
+    (subst (λ (text : List ℕ). TellsExplored c.in_ok-bench.bench (asked_of c.args.asked) c.args.asked.outcome text)
     (sym c.as_bytes.ensures.value) c.in-Ok.ensures.told)
     c.print.ensures
 

@@ -16,14 +16,14 @@ returns-in_err-bench-clause-ends g c = λ form. search (rules, refused_whatif)
 -- it does, and nothing is told of it
 pub returns-in-Err-clause-ends : goal.returns-in-Err-clause-ends
 returns-in-Err-clause-ends g c = λ form.
-    subst (λ (fault : ProgramFault). EndsAt (Whatif c.args.asked.question c.args.asked.change) form c.args.setting.now.limits (g.R.Read.remaining c.args.reader.now) (Err fault) (g.W.Write.contents c.args.writer.now)
+    subst (λ (fault : ProgramFault). EndsAt (Whatif c.args.asked) form c.args.setting.now.limits (g.R.Read.remaining c.args.reader.now) (Err fault) (g.W.Write.contents c.args.writer.now)
     (g.W.Write.contents c.args.writer.now)) (sym c.from.ensures)
-    (asked_whatif form c.args.setting.now.limits (g.R.Read.remaining c.args.reader.now) (g.W.Write.contents c.args.writer.now) c.args.asked.question c.args.asked.change c.in_ok-bench.bench c.in-Err.fault
+    (asked_whatif form c.args.setting.now.limits (g.R.Read.remaining c.args.reader.now) (g.W.Write.contents c.args.writer.now) c.args.asked c.in_ok-bench.bench c.in-Err.fault
     c.in_ok-bench.ensures.bench c.in-Err.ensures.refused)
 
 pub returns-clause-ends : goal.returns-clause-ends
 returns-clause-ends g c = λ form.
-    ends_whatif form c.args.setting.now.limits c.as_bytes.result.now _ _ c.args.asked.question c.args.asked.change _ _ c.print.result c.in_ok-bench.ensures.bench
+    ends_whatif form c.args.setting.now.limits c.as_bytes.result.now _ _ c.args.asked _ _ c.print.result c.in_ok-bench.ensures.bench
     (subst (λ (text : List ℕ). TellsWhatif c.in_ok-bench.bench c.args.asked.question c.args.asked.change text) (sym c.as_bytes.ensures.value) c.in-Ok.ensures.told)
     c.print.ensures
 
