@@ -31,9 +31,9 @@ pub fn unsent_law()
     ensures { UnsentLaw }
 {}
 
-/// If an explanation says that a presence, or its removal, was sent and not delivered, each step that the explanation
-/// names for this sent a message with the presence, or the removal, and no remaining step of the node delivered that
-/// message.
+/// An explanation may say that a presence, or its removal, was sent and not delivered at the node that it is about.
+/// Then each step that it names as a sender sent a message with the presence, or the removal, and no remaining step of
+/// that node delivered the message.
 pub fn undelivered_law()
     ensures { UndeliveredLaw }
 {}

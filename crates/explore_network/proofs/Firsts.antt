@@ -14,13 +14,13 @@ use Rattle.bench_core.proofs.Clusters.{stepped}
 use Rattle.bench_core.proofs.Openings.{opening_length}
 use Rattle.network_core.proofs.Keys.{keeps_length}
 use Rattle.network_core.specs.Cones.{cares, position}
-use Rattle.network_core.specs.EasySteps.{IsEasy, IsOwn as own, IsKnownUp as known_up}
+use Rattle.network_core.specs.EasySteps.{IsEasy, IsAlwaysEasy as own, IsKnownUp as known_up}
 use Rattle.network_core.specs.NetworkRuns.{how_many, is_of_kind}
 use Rattle.network_core.specs.Settling.{IsQuiet, IsSettled, IsSpent}
 use Rattle.network_core.proofs.NextDeliveries.{quiet_holds}
 use Rattle.network_core.proofs.Settling.{settle_holds}
 use Rattle.network_rules.specs.declared.turn.Turn.{Turn}
-use Rattle.network_rules.specs.Easy.{BringsNone, IsEasyAt, IsOwn, IsKnownUp}
+use Rattle.network_rules.specs.Easy.{BringsNone, IsEasyAt, IsAlwaysEasy, IsKnownUp}
 use Rattle.explore_network.specs.Easy.{CanGoFirst, GoesFirst, IsIdleStep, IsOwnStep}
 use Rattle.explore_network.specs.Plans.{cone_of, walk_of, IsPlan, Plan}
 use Rattle.explore_network.specs.Questions.{Question}
@@ -54,7 +54,7 @@ module _ (p : Plan) (q : Question) (plan : IsPlan p q) (w : List Kept) (counts :
   in_count n x is = let lt = slice_get_within c n x is in let long = run_length p w c at.ran in omega (arith, lt, long)
 
   easy_too : (k : Kept) → IsEasyAt c k.node k.step → IsEasy p.limits p.count w k.node k.step
-  easy_too k (IsOwn h) = own h
+  easy_too k (IsAlwaysEasy h) = own h
   easy_too k (IsKnownUp name is knows) = known_up name is (λ d x ran there. (let both : Ok d ≡ Ok c = sym ran ∙ at.ran in let same : d ≡ c = cc in
       knows x (ap (λ (e : Cluster). slice_get e k.node) (sym same) ∙ there)))
 

@@ -11,7 +11,7 @@ use Rattle.journal_core.specs.Journals.{Kept, sent_by}
 use Rattle.bench_core.specs.Clusters.{Cluster, opening_of}
 use Rattle.bench_core.proofs.OneEntry.{fine_run}
 use Rattle.bench_core.proofs.Openings.{opening_length}
-use Rattle.network_core.specs.Alike.{kept, BothAre, ClusterAlike, NodeAlike, ReplicaAlike}
+use Rattle.network_core.specs.Alike.{is_compared, BothAre, ClusterAlike, NodeAlike, ReplicaAlike}
 use Rattle.network_core.specs.Cones.{cares, position, says, sends_in, IsCone}
 use Rattle.network_core.specs.Made.{WantsMade}
 use Rattle.network_core.specs.NetworkRuns.{is_delivery, is_ordered, ordered}
@@ -65,7 +65,7 @@ module _ (p : Plan) (q : Question) (plan : IsPlan p q) where
   }
     where
       sent : (n : ℕ) (first rest : List Kept) (k : Kept) → ordered p.steps n ≡ first ++ k ∷ rest → (d : Dot) → (cone_of p.tables).of n (sends_in first + 1) d ≡ true →
-          says k.step d.name ≡ true → kept ((cone_of p.tables).at n (length first)) n d ≡ true
+          says k.step d.name ≡ true → is_compared ((cone_of p.tables).at n (length first)) n d ≡ true
       sent n first rest k whole d of said =
           let f = nth (is_ordered n) p.steps (length first) (let long = ap length whole ∙ length-append first (k ∷ rest) in omega (arith, long)) in
           let parts = parted (is_ordered n) p.steps f.place f.step f.at f.is in
@@ -96,7 +96,7 @@ module _ (p : Plan) (q : Question) (plan : IsPlan p q) where
   -- at a node that it is asked of, the dots that are asked for matter at the end, and its own
   module _ (n : ℕ) (lt : n < p.count) (asked_there : asks (node_of q) n ≡ true) where
     abbrev asked : Dot → Bool
-    asked = kept ((cares (cone_of p.tables) p.steps).at n) n
+    asked = is_compared ((cares (cone_of p.tables) p.steps).at n) n
 
     covers : (d : Dot) → is_wanted p.tables.dots d ≡ true → asked d ≡ true
     covers d wanted = go (d.name == n) wanted
@@ -114,10 +114,10 @@ module _ (p : Plan) (q : Question) (plan : IsPlan p q) where
         omega (arith, lt, long)
 
     module _ (n : ℕ) (asked_there : asks (node_of q) n ≡ true) where
-      same_asked : (lt : n < p.count) (own : ℕ) (e : Dot) → own ≡ n → kept (asked n lt asked_there) own e ≡ true → kept ((cares (cone_of p.tables) p.steps).at n) own e ≡ true
+      same_asked : (lt : n < p.count) (own : ℕ) (e : Dot) → own ≡ n → is_compared (asked n lt asked_there) own e ≡ true → is_compared ((cares (cone_of p.tables) p.steps).at n) own e ≡ true
       same_asked lt own e is h =
-          ap (λ o. kept ((cares (cone_of p.tables) p.steps).at n) o e) is
-          ∙ go ((cares (cone_of p.tables) p.steps).at n e) (e.name == n) (sym (ap (λ o. kept (asked n lt asked_there) o e) is) ∙ h)
+          ap (λ o. is_compared ((cares (cone_of p.tables) p.steps).at n) o e) is
+          ∙ go ((cares (cone_of p.tables) p.steps).at n e) (e.name == n) (sym (ap (λ o. is_compared (asked n lt asked_there) o e) is) ∙ h)
         where
           go : (a b : Bool) → ((a || b) || b) ≡ true → (a || b) ≡ true
           go true b h = refl

@@ -165,7 +165,7 @@ pub fn add_consoles<A: Allocator + Copy>(
     names: &[&str],
 ) -> Result<(), FaultKind>
     ensures gives { Gives (λ _. cast.new) result (with_consoles cast.old (map (λ name. name.now) names.now)) }
-    ensures kept { IfErr result (λ _. cast.new ≡ cast.old) }
+    ensures unchanged { IfErr result (λ _. cast.new ≡ cast.old) }
 {
     if cast.consoles.len() != 0 {
         return Err(FaultKind::Twice);

@@ -43,7 +43,7 @@ fn read_significant<A: Allocator + Copy>(
     requires { IsTrue (list_all is_visible (map (λ word. word.now) rest.now)) }
     ensures gives { Gives (λ _. reading_view reading.new) result
         (with_words_by (reading_view reading.old).cast (reading_view reading.old).lines number first.now (map (λ word. word.now) rest.now)) }
-    ensures kept { IfErr result (λ _. reading_view reading.new ≡ reading_view reading.old) }
+    ensures unchanged { IfErr result (λ _. reading_view reading.new ≡ reading_view reading.old) }
 {
     let Some(cast) = &mut reading.cast else {
         // form: an assignment would drop the old value field by field
@@ -69,7 +69,7 @@ fn read_words<A: Allocator + Copy>(
 ) -> Result<(), FaultKind>
     requires { IsTrue (list_all is_visible (map (λ word. word.now) words.now)) }
     ensures gives { Gives (λ _. reading_view reading.new) result (with_words (reading_view reading.old) number (map (λ word. word.now) words.now)) }
-    ensures kept { IfErr result (λ _. reading_view reading.new ≡ reading_view reading.old) }
+    ensures unchanged { IfErr result (λ _. reading_view reading.new ≡ reading_view reading.old) }
 {
     let [first, rest @ ..] = words else {
         return Ok(());
@@ -90,7 +90,7 @@ pub fn read_line<A: Allocator + Copy>(
     line: &[u8],
 ) -> Result<(), FaultKind>
     ensures gives { Gives (λ _. reading_view reading.new) result (with_line (reading_view reading.old) number line.now) }
-    ensures kept { IfErr result (λ _. reading_view reading.new ≡ reading_view reading.old) }
+    ensures unchanged { IfErr result (λ _. reading_view reading.new ≡ reading_view reading.old) }
 {
     if line.len() > LONGEST_LINE {
         return Err(FaultKind::TooLong);

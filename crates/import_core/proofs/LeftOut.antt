@@ -154,7 +154,7 @@ in_rounds t Q (suc rounds) notes kept =
 pub stay_kept : (t : AllTables) (Q : Numbered → Type 0) (lenient : Bool) (events : List Numbered) (notes kept : List Note) (left_out : List ℕ) →
     Each Q events → AreNotesOf t events notes → Stay lenient notes kept left_out → Kept t Q kept
 stay_kept t Q false events notes kept left_out all are stays = subst (Kept t Q) (sym stays.0) (events, all, are)
-stay_kept t Q true events notes kept left_out all are stays = subst (Kept t Q) (sym stays.kept_are) (in_rounds t Q stays.rounds notes (events, all, are))
+stay_kept t Q true events notes kept left_out all are stays = subst (Kept t Q) (sym stays.rest_are) (in_rounds t Q stays.rounds notes (events, all, are))
 
 -- the messages that they send
 

@@ -41,13 +41,13 @@ gone_in_rounds zero notes = []
 gone_in_rounds (suc rounds) notes = gone_in_rounds rounds notes ++ gone (after_rounds rounds notes)
 
 -- these events stay, since what they wait for is sent by one of them; the others went in rounds, and these are their lines
-pub record IsLenient (notes kept : List Note) (left_out : List ℕ) : Type 0 where
+pub record IsLenient (notes rest : List Note) (left_out : List ℕ) : Type 0 where
   pub rounds : ℕ
-  pub kept_are : kept ≡ after_rounds rounds notes
+  pub rest_are : rest ≡ after_rounds rounds notes
   pub left_are : left_out ≡ gone_in_rounds rounds notes
-  pub done : gone kept ≡ []
+  pub done : gone rest ≡ []
 
 -- all events stay, unless the import is lenient
 abbrev pub Stay : Bool → List Note → List Note → List ℕ → Type 0
-Stay false notes kept left_out = (kept ≡ notes) × (left_out ≡ [])
-Stay true notes kept left_out = IsLenient notes kept left_out
+Stay false notes rest left_out = (rest ≡ notes) × (left_out ≡ [])
+Stay true notes rest left_out = IsLenient notes rest left_out

@@ -55,7 +55,7 @@ fn note_for<A: Allocator + Copy>(
 ) -> Result<Noted<A>, NoteFault>
     ensures note { IfOk result (λ n. IsNoteOf (all_of tables.new) (record { number = number; line = shown_line line.now }) (note_of n)) }
     ensures seen { OnOk result (SeesNodes (all_of tables.old) (all_of tables.new) (names_in (shown_line line.now))) }
-    ensures kept { Keeps (all_of tables.old) (all_of tables.new) }
+    ensures extends { Keeps (all_of tables.old) (all_of tables.new) }
     ensures many { result ≡ Err NoteFault.TooManyNodes → HasTooMany (all_of tables.old) (names_in (shown_line line.now)) }
 {
     let node = tables.node(line.node)?;
@@ -82,7 +82,7 @@ fn note_of_event<A: Allocator + Copy>(
     ensures note { IfOk result (λ n. IsNoteOf (all_of tables.new) (record { number = number; line = shown_line line.now }) (note_of n)) }
     ensures few { OnOk result (length (all_of tables.new).nodes ≤ most_names) }
     ensures seen { OnOk result (SeesNodes (all_of tables.old) (all_of tables.new) (names_in (shown_line line.now))) }
-    ensures kept { Keeps (all_of tables.old) (all_of tables.new) }
+    ensures extends { Keeps (all_of tables.old) (all_of tables.new) }
     ensures many { result ≡ Err NoteFault.TooManyNodes → HasTooMany (all_of tables.old) (names_in (shown_line line.now)) }
 {
     let note = note_for(heap, alloc, tables, number, line)?;
@@ -107,7 +107,7 @@ fn note_of_line<A: Allocator + Copy>(
     ensures note { IfOk result (λ n. IsNoted (all_of tables.new) number line.now (option_map note_of n)) }
     ensures few { OnOk result (length (all_of tables.old).nodes ≤ most_names → length (all_of tables.new).nodes ≤ most_names) }
     ensures seen { OnOk result (SeesNodes (all_of tables.old) (all_of tables.new) (names_if (said line.now))) }
-    ensures kept { Keeps (all_of tables.old) (all_of tables.new) }
+    ensures extends { Keeps (all_of tables.old) (all_of tables.new) }
     ensures wrong { IfErr result (IsWrong (all_of tables.old).nodes line.now) }
 {
     let Some(value) = value_of_line(heap, line)? else {
@@ -140,7 +140,7 @@ fn add_line<A: Allocator + Copy>(
     ensures notes { OnOk result (AddsNote (all_of tables.new) number line.now (map note_of notes.old.items) (map note_of notes.new.items)) }
     ensures few { OnOk result (length (all_of tables.old).nodes ≤ most_names → length (all_of tables.new).nodes ≤ most_names) }
     ensures seen { OnOk result (SeesNodes (all_of tables.old) (all_of tables.new) (names_if (said line.now))) }
-    ensures kept { Keeps (all_of tables.old) (all_of tables.new) }
+    ensures extends { Keeps (all_of tables.old) (all_of tables.new) }
     ensures wrong { IfErr result (IsWrong (all_of tables.old).nodes line.now) }
 {
     let note = note_of_line(heap, alloc, tables, number, line)?;

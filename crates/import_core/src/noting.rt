@@ -38,7 +38,7 @@ pub(crate) fn presence_for<A: Allocator + Copy>(
 ) -> Result<Presence<A>, Oom>
     ensures presence { IfOk result (λ p. IsPresenceOf (all_of tables.new) (shown_tracked tracked.now) (presence_of p)) }
     ensures same_nodes { tables.new.nodes ≡ tables.old.nodes }
-    ensures kept { Keeps (all_of tables.old) (all_of tables.new) }
+    ensures extends { Keeps (all_of tables.old) (all_of tables.new) }
 {
     let pid = tables.pid(heap, tracked.pid)?;
     let topic = tables.word(heap, alloc, tracked.topic)?;
@@ -63,7 +63,7 @@ fn leave_for<A: Allocator + Copy>(
 ) -> Result<Step<A>, Oom>
     ensures step { IfOk result (λ s. IsStepOf (all_of tables.new) (leave (view pid.now) (view topic.now) (view key.now)) (plain s)) }
     ensures same_nodes { tables.new.nodes ≡ tables.old.nodes }
-    ensures kept { Keeps (all_of tables.old) (all_of tables.new) }
+    ensures extends { Keeps (all_of tables.old) (all_of tables.new) }
 {
     let pid = tables.pid(heap, pid)?;
     let topic = tables.word(heap, alloc, topic)?;
@@ -82,7 +82,7 @@ fn taken_from<A: Allocator + Copy>(
     ensures sender { IfOk result (λ m. IsNodeOf (all_of tables.new) from.now m.0) }
     ensures message { IfOk result (λ m. IsMessageOf (all_of tables.new) m.0 (view message.now) m.1) }
     ensures seen { OnOk result (SeesNodes (all_of tables.old) (all_of tables.new) (from.now ∷ [])) }
-    ensures kept { Keeps (all_of tables.old) (all_of tables.new) }
+    ensures extends { Keeps (all_of tables.old) (all_of tables.new) }
     ensures many { result ≡ Err NoteFault.TooManyNodes → HasTooMany (all_of tables.old) (from.now ∷ []) }
 {
     let sender = tables.node(from)?;
@@ -98,7 +98,7 @@ fn nodes_for<A: Allocator + Copy>(
 ) -> Result<NameSet, NoteFault>
     ensures nodes { IfOk result (λ nodes. AreNodesOf (all_of tables.new) set.empty (items_view names.now) nodes) }
     ensures seen { OnOk result (SeesNodes (all_of tables.old) (all_of tables.new) (names_among (items_view names.now))) }
-    ensures kept { Keeps (all_of tables.old) (all_of tables.new) }
+    ensures extends { Keeps (all_of tables.old) (all_of tables.new) }
     ensures many { result ≡ Err NoteFault.TooManyNodes → HasTooMany (all_of tables.old) (names_among (items_view names.now)) }
 {
     let mut nodes = NameSet::empty();
@@ -119,7 +119,7 @@ fn join_for<A: Allocator + Copy>(
 ) -> Result<Step<A>, Oom>
     ensures step { IfOk result (λ s. IsStepOf (all_of tables.new) (join (shown_tracked tracked.now)) (plain s)) }
     ensures same_nodes { tables.new.nodes ≡ tables.old.nodes }
-    ensures kept { Keeps (all_of tables.old) (all_of tables.new) }
+    ensures extends { Keeps (all_of tables.old) (all_of tables.new) }
 {
     let p = presence_for(heap, alloc, tables, tracked)?;
     Ok(Step::Join {
@@ -139,7 +139,7 @@ fn update_for<A: Allocator + Copy>(
 ) -> Result<Step<A>, Oom>
     ensures step { IfOk result (λ s. IsStepOf (all_of tables.new) (update (shown_tracked tracked.now)) (plain s)) }
     ensures same_nodes { tables.new.nodes ≡ tables.old.nodes }
-    ensures kept { Keeps (all_of tables.old) (all_of tables.new) }
+    ensures extends { Keeps (all_of tables.old) (all_of tables.new) }
 {
     let p = presence_for(heap, alloc, tables, tracked)?;
     Ok(Step::Update {
@@ -160,7 +160,7 @@ fn own_step_for<A: Allocator + Copy>(
     ensures step { IfOk result (λ s. IfSome s (λ s. IsStepOf (all_of tables.new) (shown_event event.now) (plain s))) }
     ensures some { IfOk result (λ s. is_some s ≡ is_own (shown_event event.now)) }
     ensures same_nodes { tables.new.nodes ≡ tables.old.nodes }
-    ensures kept { Keeps (all_of tables.old) (all_of tables.new) }
+    ensures extends { Keeps (all_of tables.old) (all_of tables.new) }
 {
     match event {
         LogEvent::Join(tracked) => Ok(Some(join_for(heap, alloc, tables, tracked)?)),
@@ -185,7 +185,7 @@ fn answer_for<A: Allocator + Copy>(
     ensures step { IfOk result (λ s. (n : ℕ) × (k : ℕ) × (plain s ≡ Answer n k) × IsNodeOf (all_of tables.new) from.now n
         × IsMessageOf (all_of tables.new) n (view message.now) k) }
     ensures seen { OnOk result (SeesNodes (all_of tables.old) (all_of tables.new) (from.now ∷ [])) }
-    ensures kept { Keeps (all_of tables.old) (all_of tables.new) }
+    ensures extends { Keeps (all_of tables.old) (all_of tables.new) }
     ensures many { result ≡ Err NoteFault.TooManyNodes → HasTooMany (all_of tables.old) (from.now ∷ []) }
 {
     let (sender, number) = taken_from(heap, tables, from, message)?;
@@ -201,7 +201,7 @@ fn deliver_for<A: Allocator + Copy>(
 ) -> Result<Step<A>, NoteFault>
     ensures step { IfOk result (λ s. IsStepOf (all_of tables.new) (deliver from.now (view message.now)) (plain s)) }
     ensures seen { OnOk result (SeesNodes (all_of tables.old) (all_of tables.new) (from.now ∷ [])) }
-    ensures kept { Keeps (all_of tables.old) (all_of tables.new) }
+    ensures extends { Keeps (all_of tables.old) (all_of tables.new) }
     ensures many { result ≡ Err NoteFault.TooManyNodes → HasTooMany (all_of tables.old) (from.now ∷ []) }
 {
     let (sender, number) = taken_from(heap, tables, from, message)?;
@@ -217,7 +217,7 @@ fn message_step_for<A: Allocator + Copy>(
     ensures step { IfOk result (λ s. IfSome s (λ s. IsStepOf (all_of tables.new) (shown_event event.now) (plain s))) }
     ensures some { IfOk result (λ s. is_some s ≡ is_message (shown_event event.now)) }
     ensures seen { OnOk result (SeesNodes (all_of tables.old) (all_of tables.new) (message_names (shown_event event.now))) }
-    ensures kept { Keeps (all_of tables.old) (all_of tables.new) }
+    ensures extends { Keeps (all_of tables.old) (all_of tables.new) }
     ensures many { result ≡ Err NoteFault.TooManyNodes → HasTooMany (all_of tables.old) (message_names (shown_event event.now)) }
 {
     match event {
@@ -244,7 +244,7 @@ fn status_for<A: Allocator + Copy>(
     ensures step { IfOk result (λ s. IfSome s (λ s. IsStepOf (all_of tables.new) (shown_event event.now) (plain s))) }
     ensures some { IfOk result (λ s. is_some s ≡ is_status (shown_event event.now)) }
     ensures seen { OnOk result (SeesNodes (all_of tables.old) (all_of tables.new) (status_names (shown_event event.now))) }
-    ensures kept { Keeps (all_of tables.old) (all_of tables.new) }
+    ensures extends { Keeps (all_of tables.old) (all_of tables.new) }
     ensures many { result ≡ Err NoteFault.TooManyNodes → HasTooMany (all_of tables.old) (status_names (shown_event event.now)) }
 {
     match event {
@@ -272,7 +272,7 @@ pub(crate) fn step_for<A: Allocator + Copy>(
     ensures step { IfOk result (λ s. IfSome s (λ s. IsStepOf (all_of tables.new) (shown_event event.now) (plain s))) }
     ensures some { IfOk result (λ s. is_some s ≡ not (is_online (shown_event event.now))) }
     ensures seen { OnOk result (SeesNodes (all_of tables.old) (all_of tables.new) (step_names (shown_event event.now))) }
-    ensures kept { Keeps (all_of tables.old) (all_of tables.new) }
+    ensures extends { Keeps (all_of tables.old) (all_of tables.new) }
     ensures many { result ≡ Err NoteFault.TooManyNodes → HasTooMany (all_of tables.old) (step_names (shown_event event.now)) }
 {
     match event {
@@ -294,7 +294,7 @@ pub(crate) fn sent_by<A: Allocator + Copy>(
 ) -> Result<Option<usize>, Oom>
     ensures sends { IfOk result (λ sends. IsSentOf (all_of tables.new) node (shown_event event.now) sends) }
     ensures same_nodes { tables.new.nodes ≡ tables.old.nodes }
-    ensures kept { Keeps (all_of tables.old) (all_of tables.new) }
+    ensures extends { Keeps (all_of tables.old) (all_of tables.new) }
 {
     // form: each arm is a case of the proof
     match event {

@@ -25,7 +25,7 @@ fn row_for<A: Allocator + Copy>(
 ) -> Result<OnlineRow<A>, NoteFault>
     ensures row { IfOk result (λ r. IsRowOf (all_of tables.new) (shown_row row.now) r) }
     ensures seen { OnOk result (SeesNodes (all_of tables.old) (all_of tables.new) ((shown_row row.now).node ∷ [])) }
-    ensures kept { Keeps (all_of tables.old) (all_of tables.new) }
+    ensures extends { Keeps (all_of tables.old) (all_of tables.new) }
     ensures many { result ≡ Err NoteFault.TooManyNodes → HasTooMany (all_of tables.old) ((shown_row row.now).node ∷ []) }
 {
     let name = tables.node(row.node)?;
@@ -61,7 +61,7 @@ fn rows_for<A: Allocator + Copy>(
 ) -> Result<Vec<OnlineRow<A>, A>, NoteFault>
     ensures rows { IfOk result (λ rows. AreRowsOf (all_of tables.new) [] (items_view values.now) rows.items) }
     ensures seen { OnOk result (SeesNodes (all_of tables.old) (all_of tables.new) (nodes_among (items_view values.now))) }
-    ensures kept { Keeps (all_of tables.old) (all_of tables.new) }
+    ensures extends { Keeps (all_of tables.old) (all_of tables.new) }
     ensures many { result ≡ Err NoteFault.TooManyNodes → HasTooMany (all_of tables.old) (nodes_among (items_view values.now)) }
 {
     let mut rows = Vec::new(alloc);
@@ -83,7 +83,7 @@ pub(crate) fn listed_for<A: Allocator + Copy>(
 ) -> Result<Vec<OnlineRow<A>, A>, NoteFault>
     ensures rows { IfOk result (λ rows. IsListOf (all_of tables.new) (shown_event event.now) rows.items) }
     ensures seen { OnOk result (SeesNodes (all_of tables.old) (all_of tables.new) (row_names (shown_event event.now))) }
-    ensures kept { Keeps (all_of tables.old) (all_of tables.new) }
+    ensures extends { Keeps (all_of tables.old) (all_of tables.new) }
     ensures many { result ≡ Err NoteFault.TooManyNodes → HasTooMany (all_of tables.old) (row_names (shown_event event.now)) }
 {
     match event {

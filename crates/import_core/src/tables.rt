@@ -32,7 +32,7 @@ fn number_in<A: Allocator + Copy>(
     value: &Value,
 ) -> Result<u64, Oom>
     ensures number { IfOk result (λ n. IsNumberOf texts.new (view value.now) n) }
-    ensures kept { Extends texts.old texts.new }
+    ensures extends { Extends texts.old texts.new }
 {
     let text = text_of(heap, value)?;
     Ok(numbered(texts, &text)? as u64)
@@ -46,7 +46,7 @@ fn word_in<A: Allocator + Copy>(
     value: &Value,
 ) -> Result<Word<A>, Oom>
     ensures word { IfOk result (λ word. IsWordOf longs.new (view value.now) word) }
-    ensures kept { Extends longs.old longs.new }
+    ensures extends { Extends longs.old longs.new }
 {
     let spelling = spelling_of(heap, value)?;
     let number = if spelling.len() > LONGEST_WORD {
@@ -82,7 +82,7 @@ impl<A: Allocator + Copy> Tables<A> {
     pub(crate) fn word(&mut self, heap: Global, alloc: A, value: &Value) -> Result<Word<A>, Oom>
         ensures word { IfOk result (λ word. IsWordOf self.new.longs (view value.now) word) }
         ensures same_nodes { self.new.nodes ≡ self.old.nodes }
-        ensures kept { Keeps (all_of self.old) (all_of self.new) }
+        ensures extends { Keeps (all_of self.old) (all_of self.new) }
     {
         word_in(heap, alloc, &mut self.longs, value)
     }
@@ -91,7 +91,7 @@ impl<A: Allocator + Copy> Tables<A> {
     pub(crate) fn pid(&mut self, heap: Global, value: &Value) -> Result<u64, Oom>
         ensures pid { IfOk result (λ pid. IsNumberOf self.new.pids (view value.now) pid) }
         ensures same_nodes { self.new.nodes ≡ self.old.nodes }
-        ensures kept { Keeps (all_of self.old) (all_of self.new) }
+        ensures extends { Keeps (all_of self.old) (all_of self.new) }
     {
         number_in(heap, &mut self.pids, value)
     }
@@ -102,7 +102,7 @@ impl<A: Allocator + Copy> Tables<A> {
         ensures node { IfOk result (λ node. IsNodeOf (all_of self.new) name.now node) }
         ensures few { IfOk result (λ node. node < most_names) }
         ensures seen { OnOk result (self.new.nodes ≡ with_text self.old.nodes name.now) }
-        ensures kept { Keeps (all_of self.old) (all_of self.new) }
+        ensures extends { Keeps (all_of self.old) (all_of self.new) }
         ensures many { result ≡ Err NoteFault.TooManyNodes → most_names < length (with_text self.old.nodes name.now) }
     {
         let number = numbered(&mut self.nodes, name)?;
@@ -116,7 +116,7 @@ impl<A: Allocator + Copy> Tables<A> {
     pub(crate) fn message(&mut self, heap: Global, sender: u16, value: &Value) -> Result<usize, Oom>
         ensures message { IfOk result (λ message. IsMessageOf (all_of self.new) sender (view value.now) message) }
         ensures same_nodes { self.new.nodes ≡ self.old.nodes }
-        ensures kept { Keeps (all_of self.old) (all_of self.new) }
+        ensures extends { Keeps (all_of self.old) (all_of self.new) }
     {
         let text = text_of(heap, value)?;
         let told = message_text(heap, sender, &text)?;

@@ -25,7 +25,7 @@ pub fn asked<A: Allocator + Copy>(step: &Step<A>, numbers: &[u64]) -> Result<Opt
 {
     match step {
         Step::Extract { names } => {
-            // form: all names are below 0 only if there are none
+            // form: `NameSet` has no `is_empty`; all names are below 0 only if there are none
             if names.is_below(0) {
                 return Ok(None);
             }

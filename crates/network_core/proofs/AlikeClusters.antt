@@ -16,7 +16,7 @@ use Rattle.node_core.specs.Nodes.{Node}
 use Rattle.bench_core.specs.Clusters.{Cluster, step}
 use Rattle.bench_core.proofs.Clusters.{get-set_same, get-set_other}
 use Rattle.bench_core.proofs.Deliveries.{Delivered, delivered}
-use Rattle.network_core.specs.Alike.{BothAre, Cares, ClusterAlike, MessageAlike, NodeAlike, ReplicaAlike, SentAlike, StoreAlike, kept}
+use Rattle.network_core.specs.Alike.{BothAre, Cares, ClusterAlike, MessageAlike, NodeAlike, ReplicaAlike, SentAlike, StoreAlike, is_compared}
 use Rattle.network_core.specs.Cones.{IsIdle}
 use Rattle.network_core.proofs.Beside.{after}
 use Rattle.network_core.proofs.Own.{delivered_alike}
@@ -52,7 +52,7 @@ pub replica_sym : (at : Dot → Bool) (r s : Replica) → ReplicaAlike at r s �
 replica_sym at r s a = record {
   store = r.store;
   is = ap (λ (x : Replica). record x { store = r.store }) (sym a.is);
-  alike = subst (λ (x : Replica). StoreAlike (kept at x.own) x.store r.store) (sym a.is) (store_sym (kept at r.own) r.store a.store a.alike);
+  alike = subst (λ (x : Replica). StoreAlike (is_compared at x.own) x.store r.store) (sym a.is) (store_sym (is_compared at r.own) r.store a.store a.alike);
 }
 
 sent_sym : (of : ℕ → Dot → Bool) (xs ys : List Message) → SentAlike of xs ys → SentAlike of ys xs

@@ -11,16 +11,16 @@ use Rattle.bench_core.proofs.Taken.{WasRead, was_read}
 use Rattle.order_core.proofs.Front.{front}
 use Rattle.order_core.proofs.Lists.{NoneOf}
 use Rattle.network_core.specs.Cones.{AloneLaw}
-use Rattle.network_core.specs.EasySteps.{MayBeFirst}
+use Rattle.network_core.specs.EasySteps.{MayBePassed}
 use Rattle.network_core.specs.NetworkRuns.{IsNetworkRun, is_delivery}
 use Rattle.network_core.proofs.EagerSteps.{Around, around, here, still_run}
 
 -- a step that may be first is of another node, where nothing is delivered at this one
-none_of : (n : ℕ) (before : List Kept) → AllByRecursion (MayBeFirst n) before → AllByRecursion (λ (x : Kept). x.node ≡ n → is_delivery x.step ≡ false) before → NoneOf n before
+none_of : (n : ℕ) (before : List Kept) → AllByRecursion (MayBePassed n) before → AllByRecursion (λ (x : Kept). x.node ≡ n → is_delivery x.step ≡ false) before → NoneOf n before
 none_of n [] may quiet = tt
 none_of n (x ∷ xs) may quiet = (go may.0, none_of n xs may.1 quiet.1)
   where
-    go : MayBeFirst n x → x.node ≢ n
+    go : MayBePassed n x → x.node ≢ n
     go (inl other) = other
     go (inr at) = absurd (true≢false (sym (ap is_delivery at.1.1.1) ∙ quiet.0 at.0))
 

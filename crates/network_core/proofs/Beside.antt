@@ -16,7 +16,7 @@ use Rattle.node_core.specs.Operations.{Operation, Join, Leave, LeaveAll, Update,
 use Rattle.node_core.specs.Nodes.{Node, with_replica, with_sent, is_outbox_full, unless, broadcast, take}
 use Rattle.network_core.specs.OwnSteps.{OwnLaw}
 use Rattle.network_core.proofs.Own.{own_holds}
-use Rattle.network_core.specs.EasySteps.{is_own}
+use Rattle.network_core.specs.EasySteps.{is_always_easy}
 
 -- the node after a delivery
 abbrev pub after : Message → Node → Node
@@ -107,7 +107,7 @@ module _ (m : Message) (x : Node) where
   send true = sent m x (with_sent x (delta_message r) (without_delta r)) (is_outbox_full x)
   send false = Refused NothingToSend refl refl
 
-  pub own_beside : (s : Operation) → is_own s ≡ true → Beside m (take x s None) (take (after m x) s None)
+  pub own_beside : (s : Operation) → is_always_easy s ≡ true → Beside m (take x s None) (take (after m x) s None)
   own_beside (Join p) h = join p
   own_beside (Leave pid topic key) h = leave pid topic key
   own_beside (LeaveAll pid) h = leave_all pid

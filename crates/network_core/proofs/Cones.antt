@@ -14,7 +14,7 @@ use Rattle.bench_core.specs.Clusters.{Cluster, opening_of}
 use Rattle.bench_core.specs.Runs.{runs, then_runs}
 use Rattle.bench_core.proofs.OneEntry.{fine_run}
 use Rattle.bench_core.proofs.Runs.{outbox_counts, runs_append}
-use Rattle.network_core.specs.Alike.{Follows, Ends, Goes, Narrows, kept, sends_of}
+use Rattle.network_core.specs.Alike.{Follows, Ends, Goes, Narrows, is_compared, sends_of}
 use Rattle.network_core.specs.Cones.{Cone, ConeLaw, IsCone, cares, position, says, sends_in}
 use Rattle.network_core.specs.NetworkRuns.{IsNetworkRun, deliveries, how_many, is_delivery, is_ordered, ordered}
 use Rattle.network_core.proofs.Counts.{count_append, delivered_append, first_fails}
@@ -142,7 +142,7 @@ module _ (l : NodeLimits) (count : ℕ) (j : List Kept) (lost again : ℕ) (t : 
         go false e = absurd (true≢false e)
 
     sent : (x : Node) (names : Names) → slice_get c k.node ≡ Some x → sends_of c k.step ≡ Some names → (d : Dot) → t.of k.node (suc (length x.outbox)) d ≡ true →
-        set.contains names d.name ≡ true → kept (t.at k.node (position first k.node)) x.replica.own d ≡ true
+        set.contains names d.name ≡ true → is_compared (t.at k.node (position first k.node)) x.replica.own d ≡ true
     sent x names at is d h named =
         let says = says_so c k.step names d.name is named in
         let mine : is_ordered k.node k ≡ true = λ i. eq-eqb k.node k.node refl i && not (says.sends i) in
@@ -152,7 +152,7 @@ module _ (l : NodeLimits) (count : ℕ) (j : List Kept) (lost again : ℕ) (t : 
         let number : suc (length x.outbox) ≡ sends_in (ordered first k.node) + 1 =
         (let long = outbox_counts l count first c k.node x ran at in let same = sent_count first k.node in omega (arith, long, same)) in
         let named : x.replica.own ≡ k.node = ((fine_run l count first c ran).each k.node x at).own in
-        ap (λ own. kept (t.at k.node (position first k.node)) own d) named ∙
+        ap (λ own. is_compared (t.at k.node (position first k.node)) own d) named ∙
         (cone.sent k.node (ordered first k.node) (ordered ks k.node) k parted d (ap (λ i. t.of k.node i d) (sym number) ∙ h) says.says)
 
     pub narrows : Narrows c k (cares t first) (cares t (first ++ k ∷ []))

@@ -13,7 +13,7 @@ use Rattle.bench_core.specs.Runs.{runs}
 use Rattle.bench_core.proofs.Clusters.{ReadsAlike, get-set_same, get-set_other, mapped, mapped_ok, set-set_other, message-set, step-set, stepped, Stepped}
 use Rattle.bench_core.proofs.Taken.{deliver_ok, posts, was_read}
 use Rattle.bench_core.proofs.Runs.{run_one, runs_split}
-use Rattle.network_core.specs.EasySteps.{step_of, MayBeFirst, IsEasy, IsOwn, IsKnownUp, EagerLaw}
+use Rattle.network_core.specs.EasySteps.{step_of, MayBePassed, IsEasy, IsAlwaysEasy, IsKnownUp, EagerLaw}
 use Rattle.network_core.proofs.Beside.{after, own_beside, up_beside, Beside}
 use Rattle.order_core.proofs.Front.{reads_alike_after}
 use Rattle.network_core.proofs.Passed.{OtherOrder, GivesSame, reads_nothing, with_own_first, other_way}
@@ -51,7 +51,7 @@ module _ (c d e : Cluster) (m n : ℕ) (t s : Operation) (silent : (c : Cluster)
       (ap (λ x. step x m t) own_at.gives ∙ then_other ∙ ap (mapped (λ e. set e n own_at.to)) first ∙ ap Ok ends)
 
 -- an easy step before one that may be first
-before_one : (n : ℕ) (s : Operation) (k : Kept) → ((c : Cluster) → message_for c s ≡ None) → MayBeFirst n k → (old mid end : Cluster) →
+before_one : (n : ℕ) (s : Operation) (k : Kept) → ((c : Cluster) → message_for c s ≡ None) → MayBePassed n k → (old mid end : Cluster) →
     ((m : Message) (x : Node) → slice_get old n ≡ Some x → Beside m (take x s None) (take (after m x) s None)) → IsNumbered old →
     step old k.node k.step ≡ Ok mid → step mid n s ≡ Ok end → OtherOrder old n s k.node k.step end
 before_one n s k silent (inl other) old mid end alike numbered a b = own_before old mid end k.node n k.step s silent other a b
@@ -84,21 +84,21 @@ known_after old c n sender p x name h at known =
 
 module _ (l : NodeLimits) (count n : ℕ) (s : Operation) where
   easy_silent : (first : List Kept) → IsEasy l count first n s → (c : Cluster) → message_for c s ≡ None
-  easy_silent first (IsOwn own) c = reads_nothing c s own
+  easy_silent first (IsAlwaysEasy own) c = reads_nothing c s own
   easy_silent first (IsKnownUp name is known) c = ap (message_for c) is
 
   easy_alike : (first : List Kept) → IsEasy l count first n s → (c : Cluster) → runs l count first ≡ Ok c → (m : Message) (x : Node) → slice_get c n ≡ Some x →
       Beside m (take x s None) (take (after m x) s None)
-  easy_alike first (IsOwn own) c ran m x here = own_beside m x s own
+  easy_alike first (IsAlwaysEasy own) c ran m x here = own_beside m x s own
   easy_alike first (IsKnownUp name is known) c ran m x here =
       subst (λ (o : Operation). Beside m (take x o None) (take (after m x) o None)) (sym is) (up_beside m x name (known c x ran here))
 
   -- it is easy after one that may be first, too
-  easy_on : (first : List Kept) (k : Kept) → IsEasy l count first n s → MayBeFirst n k → IsEasy l count (first ++ k ∷ []) n s
-  easy_on first k (IsOwn own) may = IsOwn own
+  easy_on : (first : List Kept) (k : Kept) → IsEasy l count first n s → MayBePassed n k → IsEasy l count (first ++ k ∷ []) n s
+  easy_on first k (IsAlwaysEasy own) may = IsAlwaysEasy own
   easy_on first k (IsKnownUp name is known) may = IsKnownUp name is (λ c x ran at. go c x at (parts l count first k c ran) may)
     where
-      go : (c : Cluster) (x : Node) → slice_get c n ≡ Some x → Parts l count first k c → MayBeFirst n k → is_known x.replica name ≡ true
+      go : (c : Cluster) (x : Node) → slice_get c n ≡ Some x → Parts l count first k c → MayBePassed n k → is_known x.replica name ≡ true
       go c x at p (inl other) =
           let st = stepped p.old k.node k.step c p.one in
           known p.old x p.ran (sym (get-set_other p.old k.node n st.to (λ e. other (sym e))) ∙ ap (λ (c : Cluster). slice_get c n) (sym st.gives) ∙ at)

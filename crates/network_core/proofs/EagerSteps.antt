@@ -8,7 +8,7 @@ use Rattle.node_core.specs.Operations.{Operation, Join, Leave, LeaveAll, Update,
 use Rattle.journal_core.specs.Journals.{Kept}
 use Rattle.bench_core.specs.declared.fault.Fault.TheVariants.{EntriesFull}
 use Rattle.bench_core.specs.Runs.{runs}
-use Rattle.network_core.specs.EasySteps.{IsEasy, MayBeFirst, EagerStepLaw}
+use Rattle.network_core.specs.EasySteps.{IsEasy, MayBePassed, EagerStepLaw}
 use Rattle.network_core.specs.NetworkRuns.{IsNetworkRun, HaveSame, is_delivery, is_ordered, ordered, deliveries}
 use Rattle.network_core.specs.Room.{makes, made}
 use Rattle.network_core.proofs.Eager.{eager_holds}
@@ -29,10 +29,10 @@ delivers_what (Up name) h = absurd (cc)
 delivers_what (Down name) h = absurd (cc)
 delivers_what (Permdown name) h = absurd (cc)
 
-may_be_first : (n : ℕ) (k : Kept) → is_ordered n k ≡ false → MayBeFirst n k
+may_be_first : (n : ℕ) (k : Kept) → is_ordered n k ≡ false → MayBePassed n k
 may_be_first n k h = go (k.node == n) (is_delivery k.step) refl refl h
   where
-    go : (a b : Bool) → (k.node == n) ≡ a → is_delivery k.step ≡ b → (a && not b) ≡ false → MayBeFirst n k
+    go : (a b : Bool) → (k.node == n) ≡ a → is_delivery k.step ≡ b → (a && not b) ≡ false → MayBePassed n k
     go false b here is h = inl (eqb-false k.node n here)
     go true true here is h = let d = delivers_what k.step is in inr (eqb-true k.node n here, (d.0, (d.1.0, d.1.1)))
     go true false here is h = absurd (true≢false h)
@@ -42,7 +42,7 @@ pub record Around (n : ℕ) (rest : List Kept) (k : Kept) : Type 0 where
   pub before : List Kept
   pub after : List Kept
   pub is : rest ≡ before ++ k ∷ after
-  pub may : AllByRecursion (MayBeFirst n) before
+  pub may : AllByRecursion (MayBePassed n) before
   pub none : ordered before n ≡ []
   pub chosen : is_ordered n k ≡ true
 
@@ -167,6 +167,6 @@ eager_step_holds l count j lost again n first more k c g next easy room =
     }
   where
     ends : (a : Around n g.rest k) → k.node ≡ n → runs l count (first ++ k ∷ (a.before ++ a.after)) ≡ Ok c
-    ends a at = eager_holds l count k.number k.node first a.before a.after k.step (subst (λ m. IsEasy l count first m k.step) (sym at) easy) (subst (λ m. AllByRecursion (MayBeFirst m) a.before) (sym at) a.may)
+    ends a at = eager_holds l count k.number k.node first a.before a.after k.step (subst (λ m. IsEasy l count first m k.step) (sym at) easy) (subst (λ m. AllByRecursion (MayBePassed m) a.before) (sym at) a.may)
         (λ xs ys x is. fills_none l count first a.before a.after xs ys k x (subst (λ (ks : List Kept). made (first ++ ks) ≤ l.entries) a.is room) is) c
         (ap (λ (ks : List Kept). runs l count (first ++ ks)) (sym a.is) ∙ g.ends)

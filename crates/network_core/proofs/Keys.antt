@@ -16,7 +16,7 @@ use Rattle.bench_core.specs.Runs.{runs, then_runs}
 use Rattle.bench_core.proofs.Clusters.{stepped}
 use Rattle.bench_core.proofs.OneEntry.{Fine, fine_run}
 use Rattle.bench_core.proofs.Runs.{run_one}
-use Rattle.network_core.specs.Alike.{BothAre, Cares, ClusterAlike, MessageAlike, NodeAlike, ReplicaAlike, SentAlike, kept}
+use Rattle.network_core.specs.Alike.{BothAre, Cares, ClusterAlike, MessageAlike, NodeAlike, ReplicaAlike, SentAlike, is_compared}
 use Rattle.network_core.specs.Keys.{StandAlike, StandAlikeLaw, own_sent, sent_of}
 use Rattle.network_core.specs.Made.{IsMade, own_from}
 use Rattle.network_core.specs.NetworkRuns.{ordered}
@@ -122,7 +122,7 @@ module _ (l : NodeLimits) (count : ℕ) (first other : List Kept) (t : Cares) (c
     own_name : x.replica.own ≡ n
     own_name = (fine.each n x at).own
 
-    both_same : (q : Dot) → kept (t.at n) x.replica.own q ≡ true → SameAt before own_alike.store q
+    both_same : (q : Dot) → is_compared (t.at n) x.replica.own q ≡ true → SameAt before own_alike.store q
     both_same q h = go (q.name == x.replica.own) refl (or_cases (t.at n q) (q.name == x.replica.own) h)
       where
         mine : (q.name == x.replica.own) ≡ true → SameAt before own_alike.store q

@@ -30,7 +30,7 @@ use Rattle.network_core.proofs.NeverFull.{few_opening}
 use Rattle.network_core.specs.NetworkRuns.{is_delivery, is_ordered, ordered}
 use Rattle.network_core.proofs.OwnEdits.{OwnAlike, Edits, edits_by, still_alike, joined_edits, left_each_edits, dropped_each_edits, same_clock, same_dots_of, dots_are_of}
 use Rattle.network_core.proofs.Own.{delivered_alike}
-use Rattle.network_core.specs.Alike.{ReplicaAlike, StoreAlike, kept}
+use Rattle.network_core.specs.Alike.{ReplicaAlike, StoreAlike, is_compared}
 use Rattle.network_core.specs.Made.{own_after, own_from, FreshLaw, IsMade, MadeLaw, WantsMade, WantedLaw}
 use Rattle.network_core.specs.Rows.{AreWanted, is_row_of}
 use Rattle.network_core.proofs.Stores.{beside, own_of, edited, part_alike, replica_same}
@@ -39,10 +39,10 @@ abbrev pub nothing : Dot → Bool
 nothing d = false
 
 -- of own dots alone
-pub of_own : (own : ℕ) (s t : Store) → OwnAlike own s t → StoreAlike (kept nothing own) s t
+pub of_own : (own : ℕ) (s t : Store) → OwnAlike own s t → StoreAlike (is_compared nothing own) s t
 of_own own s t a = record { seen = λ q h. a.seen q h; entries = λ q h. a.entries q h }
 
-module _ (r : Replica) (t : Store) (a : StoreAlike (kept nothing r.own) r.store t) where
+module _ (r : Replica) (t : Store) (a : StoreAlike (is_compared nothing r.own) r.store t) where
   abbrev own_alike : OwnAlike r.own r.store t
   own_alike = own_of nothing r.own r.store t a
 
@@ -119,7 +119,7 @@ module _ (r : Replica) (t : Store) (a : StoreAlike (kept nothing r.own) r.store 
       (record {
         store = (forgotten name (beside r t)).store;
         is = refl;
-        alike = part_alike (kept nothing r.own) (kept nothing r.own) (is_other name) r.store t a (λ d h other. h);
+        alike = part_alike (is_compared nothing r.own) (is_compared nothing r.own) (is_other name) r.store t a (λ d h other. h);
       })
 
 -- any replica that has the own part

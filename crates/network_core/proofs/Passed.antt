@@ -23,7 +23,7 @@ use Rattle.bench_core.proofs.Clusters.{Stepped, get-set_same, set-set_same, mess
 use Rattle.bench_core.proofs.Taken.{owns}
 use Rattle.bench_core.proofs.Runs.{runs_append, runs_split, run_one, numbered_runs}
 use Rattle.bench_core.proofs.Deliveries.{Delivered, delivered, deliver_gives, still_named, refusal_of, room_cases}
-use Rattle.network_core.specs.EasySteps.{is_own}
+use Rattle.network_core.specs.EasySteps.{is_always_easy}
 use Rattle.network_core.proofs.Beside.{after, Beside, IsFull, IsFullAfter, Refused, Taken}
 
 was_named : (c : Cluster) (n : ℕ) (x : Node) (ks : List ℕ) → list_all (λ k. nat_lt k (length (set c n x))) ks ≡ true →
@@ -31,7 +31,7 @@ was_named : (c : Cluster) (n : ℕ) (x : Node) (ks : List ℕ) → list_all (λ 
 was_named c n x ks h = ap (λ m. list_all (λ k. nat_lt k m) ks) (sym (length-set c n x)) ∙ h
 
 -- an own step reads no message
-pub reads_nothing : (c : Cluster) (s : Operation) → is_own s ≡ true → message_for c s ≡ None
+pub reads_nothing : (c : Cluster) (s : Operation) → is_always_easy s ≡ true → message_for c s ≡ None
 reads_nothing c (Join p) h = refl
 reads_nothing c (Leave pid topic key) h = refl
 reads_nothing c (LeaveAll pid) h = refl

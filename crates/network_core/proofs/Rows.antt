@@ -13,7 +13,7 @@ use Rattle.block_core.proofs.EntryMaps.{get-retain, same_entries}
 use Rattle.replica_core.specs.Replicas.{Replica}
 use Rattle.diff_core.specs.Rows.{Row, row_of}
 use Rattle.diff_core.specs.Online.{is_shown}
-use Rattle.network_core.specs.Alike.{StoreAlike, kept}
+use Rattle.network_core.specs.Alike.{StoreAlike, is_compared}
 use Rattle.network_core.specs.Rows.{is_row_of, rows_of, AreWanted, RowsLaw}
 use Rattle.network_core.proofs.Stores.{beside, cond_both, or_left}
 
@@ -47,13 +47,13 @@ module _ (q : Pair → Bool) (p : Row → Bool) where
           rest ∙ sym (first_listed e es ∙ ap (λ b. cond b (row_of e ∷ listed es) (listed es)) (hidden (p (row_of e)) refl is))
 
 all_kept : (wanted : Dot → Bool) (own : ℕ) (p : Row → Bool) (es : List Pair) → AllByRecursion (λ (e : Pair). p (row_of e) ≡ true → wanted e.0 ≡ true) es →
-    AllByRecursion (λ (e : Pair). p (row_of e) ≡ true → kept wanted own e.0 ≡ true) es
+    AllByRecursion (λ (e : Pair). p (row_of e) ≡ true → is_compared wanted own e.0 ≡ true) es
 all_kept wanted own p [] all = tt
 all_kept wanted own p (e ∷ es) all = (λ h. or_left (wanted e.0) (e.0.name == own) (all.0 h), all_kept wanted own p es all.1)
 
 module _ (wanted : Dot → Bool) (topic key : List ℕ) (r : Replica) where
   abbrev k : Dot → Bool
-  k = kept wanted r.own
+  k = is_compared wanted r.own
 
   abbrev rows : Store → List Row
   rows s = listed (is_shown r) (is_row_of topic key) (fin.entries s.entries)

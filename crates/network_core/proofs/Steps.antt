@@ -24,8 +24,8 @@ use Rattle.node_core.specs.Operations.{Operation, Join, Leave, LeaveAll, Update,
 use Rattle.node_core.specs.Nodes.{Node, with_replica, with_sent, is_outbox_full, unless, unless_full, broadcast, deliver, deliver_unasked, answer, answer_asked, take}
 use Rattle.journal_core.proofs.Numbered.{get-append_at, numbered_push_other}
 use Rattle.network_core.proofs.OwnEdits.{OwnAlike, Edits, edits_by, still_alike, joined_edits, left_each_edits, dropped_each_edits, same_clock, same_dots_of, dots_are_of}
-use Rattle.network_core.specs.Alike.{StoreAlike, MessageAlike, ReplicaAlike, NodeAlike, SentAlike, BothAre, kept, forgets, asked_of}
-use Rattle.network_core.proofs.Stores.{or_cases, or_left, or_right, kept_less, store_less, message_same, named_alike, part_alike, merged_alike, beside, own_of, edited}
+use Rattle.network_core.specs.Alike.{StoreAlike, MessageAlike, ReplicaAlike, NodeAlike, SentAlike, BothAre, is_compared, forgets, asked_of}
+use Rattle.network_core.proofs.Stores.{or_cases, or_left, or_right, compared_less, store_less, message_same, named_alike, part_alike, merged_alike, beside, own_of, edited}
 
 -- two nodes took a step, and came to alike ones; or both were refused for one cause; or one was full
 pub data Together (R : Node → Node → Type 0) (one two : Result Node StepFault) : Type 0 where
@@ -79,7 +79,7 @@ not_own : (r : Replica) (own : ℕ) (q : Dot) → r.own ≡ own → (q.name == o
 not_own r own q same mine other =
     true≢false (sym other ∙ ap (λ n. is_known r q.name && not (q.name == n)) same ∙ ap (λ b. is_known r q.name && not b) mine ∙ and-false (is_known r q.name))
 
-module _ (r : Replica) (t : Store) (xs ys : List Message) (at to : Dot → Bool) (of : ℕ → Dot → Bool) (a : StoreAlike (kept at r.own) r.store t)
+module _ (r : Replica) (t : Store) (xs ys : List Message) (at to : Dot → Bool) (of : ℕ → Dot → Bool) (a : StoreAlike (is_compared at r.own) r.store t)
     (long : length ys ≡ length xs) (sent : SentAlike of xs ys) where
   abbrev x : Node
   x = record { replica = r; outbox = xs }
@@ -112,7 +112,7 @@ module _ (r : Replica) (t : Store) (xs ys : List Message) (at to : Dot → Bool)
   -- what matters behind the step mattered before it
   module _ (less : (d : Dot) → to d ≡ true → at d ≡ true) where
     abbrev same_replica : ReplicaAlike to r (beside r t)
-    same_replica = record { store = t; is = refl; alike = store_less (kept at r.own) (kept to r.own) r.store t (kept_less at to r.own less) a }
+    same_replica = record { store = t; is = refl; alike = store_less (is_compared at r.own) (is_compared to r.own) r.store t (compared_less at to r.own less) a }
 
     by_edit : (u v : Replica) → Edits r t u v → R (with_replica x u) (with_replica y v)
     by_edit u v e = still u v (edited at to r t u v a less e)
@@ -185,12 +185,12 @@ module _ (r : Replica) (t : Store) (xs ys : List Message) (at to : Dot → Bool)
     abbrev extract_of : Replica → Names → Message
     extract_of r names = message_of_names (set.contains names) r.own r.store.seen r.store.entries
 
-    extracted : (names : Names) → ((d : Dot) → of (suc (length xs)) d ≡ true → set.contains names d.name ≡ true → kept at r.own d ≡ true) →
+    extracted : (names : Names) → ((d : Dot) → of (suc (length xs)) d ≡ true → set.contains names d.name ≡ true → is_compared at r.own d ≡ true) →
         Together R (unless_full x (with_sent x (extract_of r names) r)) (unless_full y (with_sent y (extract_of (beside r t) names) (beside r t)))
     extracted names was =
         send (with_sent x (extract_of r names) r) (with_sent y (extract_of (beside r t) names) (beside r t))
         (more r (beside r t) (extract_of r names) (extract_of (beside r t) names) same_replica
-        (named_alike (kept at r.own) (of (suc (length xs))) (set.contains names) r.own r.store t a was))
+        (named_alike (is_compared at r.own) (of (suc (length xs))) (set.contains names) r.own r.store t a was))
 
     -- a delivery
     module _ (read : Dot → Bool) (brings : (d : Dot) → to d ≡ true → read d ≡ true) where
@@ -201,7 +201,7 @@ module _ (r : Replica) (t : Store) (xs ys : List Message) (at to : Dot → Bool)
           (still (merged m r) (merged k (beside r t)) (record {
             store = (merged k (beside r t)).store;
             is = refl;
-            alike = merged_alike (kept at r.own) (kept to r.own) (is_other_known r) (store_of m) (store_of k) r.store t a (kept_less at to r.own less)
+            alike = merged_alike (is_compared at r.own) (is_compared to r.own) (is_other_known r) (store_of m) (store_of k) r.store t a (compared_less at to r.own less)
                 (λ d h other. brought d other (or_cases (to d) (d.name == r.own) h));
           }))
         where
@@ -229,13 +229,13 @@ module _ (r : Replica) (t : Store) (xs ys : List Message) (at to : Dot → Bool)
     -- an answer
     module _ (read : Dot → Bool) where
       answer_names : (o : Option Names) →
-          ((names : Names) → o ≡ Some names → (d : Dot) → of (suc (length xs)) d ≡ true → set.contains names d.name ≡ true → kept at r.own d ≡ true) →
+          ((names : Names) → o ≡ Some names → (d : Dot) → of (suc (length xs)) d ≡ true → set.contains names d.name ≡ true → is_compared at r.own d ≡ true) →
           Together R (answer_asked o x) (answer_asked o y)
       answer_names None was = Refused NotRequest refl refl
       answer_names (Some names) was = extracted names (was names refl)
 
       answer_both : (o p : Option Message) → BothAre (MessageAlike read) o p →
-          ((names : Names) → asked_of o ≡ Some names → (d : Dot) → of (suc (length xs)) d ≡ true → set.contains names d.name ≡ true → kept at r.own d ≡ true) →
+          ((names : Names) → asked_of o ≡ Some names → (d : Dot) → of (suc (length xs)) d ≡ true → set.contains names d.name ≡ true → is_compared at r.own d ≡ true) →
           Together R (answer x o) (answer y p)
       answer_both None None b was = Refused NoSuchMessage refl refl
       answer_both None (Some k) b was = absurd b
@@ -244,7 +244,7 @@ module _ (r : Replica) (t : Store) (xs ys : List Message) (at to : Dot → Bool)
           subst (λ (asked : Option Names). Together R (answer_asked m.asked x) (answer_asked asked y)) (sym b.asks) (answer_names m.asked was)
 
       pub answer_any : (own : Bool) (o p : Option Message) → BothAre (MessageAlike read) o p →
-          ((names : Names) → asked_of o ≡ Some names → (d : Dot) → of (suc (length xs)) d ≡ true → set.contains names d.name ≡ true → kept at r.own d ≡ true) →
+          ((names : Names) → asked_of o ≡ Some names → (d : Dot) → of (suc (length xs)) d ≡ true → set.contains names d.name ≡ true → is_compared at r.own d ≡ true) →
           Together R (if own then Err OwnMessage else answer x o) (if own then Err OwnMessage else answer y p)
       answer_any true o p b was = Refused OwnMessage refl refl
       answer_any false o p b was = answer_both o p b was
@@ -256,11 +256,11 @@ module _ (r : Replica) (t : Store) (xs ys : List Message) (at to : Dot → Bool)
       (still (forgotten name r) (forgotten name (beside r t)) (record {
         store = (forgotten name (beside r t)).store;
         is = refl;
-        alike = part_alike (kept at r.own) (kept to r.own) (is_other name) r.store t a
+        alike = part_alike (is_compared at r.own) (is_compared to r.own) (is_other name) r.store t a
             (λ d h other. go d other (or_cases (to d) (d.name == r.own) h));
       }))
     where
-      go : (d : Dot) → is_other name d.name ≡ true → (to d ≡ true) ⊎ ((d.name == r.own) ≡ true) → kept at r.own d ≡ true
+      go : (d : Dot) → is_other name d.name ≡ true → (to d ≡ true) ⊎ ((d.name == r.own) ≡ true) → is_compared at r.own d ≡ true
       go d other (inl asked) = or_left (at d) (d.name == r.own) (less d (is_not (d.name == name) other) asked)
         where
           is_not : (b : Bool) → not b ≡ true → b ≡ false
@@ -269,13 +269,13 @@ module _ (r : Replica) (t : Store) (xs ys : List Message) (at to : Dot → Bool)
       go d other (inr mine) = or_right (at d) (d.name == r.own) mine
 
 -- any step
-pub take_both : (at to : Dot → Bool) (of : ℕ → Dot → Bool) (read : Dot → Bool) (r : Replica) (t : Store) (xs ys : List Message) → StoreAlike (kept at r.own) r.store t →
+pub take_both : (at to : Dot → Bool) (of : ℕ → Dot → Bool) (read : Dot → Bool) (r : Replica) (t : Store) (xs ys : List Message) → StoreAlike (is_compared at r.own) r.store t →
     length ys ≡ length xs → SentAlike of xs ys → (s : Operation) (o p : Option Message) → BothAre (MessageAlike read) o p →
     ((d : Dot) → forgets s d.name ≡ false → to d ≡ true → at d ≡ true) →
     ((sender number : ℕ) → s ≡ Deliver sender number → (d : Dot) → to d ≡ true → read d ≡ true) →
-    ((names : Names) → s ≡ Extract names → (d : Dot) → of (suc (length xs)) d ≡ true → set.contains names d.name ≡ true → kept at r.own d ≡ true) →
+    ((names : Names) → s ≡ Extract names → (d : Dot) → of (suc (length xs)) d ≡ true → set.contains names d.name ≡ true → is_compared at r.own d ≡ true) →
     ((sender number : ℕ) (names : Names) → s ≡ Answer sender number → asked_of o ≡ Some names → (d : Dot) → of (suc (length xs)) d ≡ true →
-    set.contains names d.name ≡ true → kept at r.own d ≡ true) →
+    set.contains names d.name ≡ true → is_compared at r.own d ≡ true) →
     Together (NodeAlike to of) (take (record { replica = r; outbox = xs }) s o) (take (record { replica = beside r t; outbox = ys }) s p)
 take_both at to of read r t xs ys a long sent (Join q) o p b less brings was was_too = join r t xs ys at to of a long sent (λ d h. less d refl h) q
 take_both at to of read r t xs ys a long sent (Leave pid topic key) o p b less brings was was_too = leave r t xs ys at to of a long sent (λ d h. less d refl h) pid topic key

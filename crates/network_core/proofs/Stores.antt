@@ -11,7 +11,7 @@ use Rattle.block_core.proofs.EntryMaps.{get-retain}
 use Rattle.store_core.proofs.StoreMerges.{entry_after, get-merged, contains-merged}
 use Rattle.replica_core.specs.Replicas.{Replica}
 use Rattle.network_core.proofs.OwnEdits.{OwnAlike, Edits}
-use Rattle.network_core.specs.Alike.{StoreAlike, MessageAlike, ReplicaAlike, kept}
+use Rattle.network_core.specs.Alike.{StoreAlike, MessageAlike, ReplicaAlike, is_compared}
 
 -- tests
 
@@ -27,10 +27,10 @@ pub or_cases : (a b : Bool) → (a || b) ≡ true → (a ≡ true) ⊎ (b ≡ tr
 or_cases true b h = inl refl
 or_cases false b h = inr h
 
-pub kept_less : (at to : Dot → Bool) (own : ℕ) → ((d : Dot) → to d ≡ true → at d ≡ true) → (d : Dot) → kept to own d ≡ true → kept at own d ≡ true
-kept_less at to own less d h = go (or_cases (to d) (d.name == own) h)
+pub compared_less : (at to : Dot → Bool) (own : ℕ) → ((d : Dot) → to d ≡ true → at d ≡ true) → (d : Dot) → is_compared to own d ≡ true → is_compared at own d ≡ true
+compared_less at to own less d h = go (or_cases (to d) (d.name == own) h)
   where
-    go : (to d ≡ true) ⊎ ((d.name == own) ≡ true) → kept at own d ≡ true
+    go : (to d ≡ true) ⊎ ((d.name == own) ≡ true) → is_compared at own d ≡ true
     go (inl a) = or_left (at d) (d.name == own) (less d a)
     go (inr b) = or_right (at d) (d.name == own) b
 
@@ -110,14 +110,14 @@ merged_alike p q named m k s t a less read = record {
 abbrev pub beside : Replica → Store → Replica
 beside r t = record r { store = t }
 
-pub own_of : (at : Dot → Bool) (own : ℕ) (s t : Store) → StoreAlike (kept at own) s t → OwnAlike own s t
+pub own_of : (at : Dot → Bool) (own : ℕ) (s t : Store) → StoreAlike (is_compared at own) s t → OwnAlike own s t
 own_of at own s t a = record {
   seen = λ q h. a.seen q (or_right (at q) (q.name == own) h);
   entries = λ q h. a.entries q (or_right (at q) (q.name == own) h);
 }
 
 -- an edit of the own entries
-pub edited : (at to : Dot → Bool) (r : Replica) (t : Store) (one two : Replica) → StoreAlike (kept at r.own) r.store t → ((d : Dot) → to d ≡ true → at d ≡ true) →
+pub edited : (at to : Dot → Bool) (r : Replica) (t : Store) (one two : Replica) → StoreAlike (is_compared at r.own) r.store t → ((d : Dot) → to d ≡ true → at d ≡ true) →
     Edits r t one two → ReplicaAlike to one two
 edited at to r t one two a less e = record {
   store = e.store;
@@ -128,27 +128,27 @@ edited at to r t one two a less e = record {
   };
 }
   where
-    was : (q : Dot) → kept to one.own q ≡ true → kept at r.own q ≡ true
-    was q h = kept_less at to r.own less q (ap (λ n. kept to n q) (sym e.own) ∙ h)
+    was : (q : Dot) → is_compared to one.own q ≡ true → is_compared at r.own q ≡ true
+    was q h = compared_less at to r.own less q (ap (λ n. is_compared to n q) (sym e.own) ∙ h)
 
-    seen : (q : Dot) (b : Bool) → (q.name == r.own) ≡ b → kept at r.own q ≡ true → set.contains e.store.seen q ≡ set.contains one.store.seen q
+    seen : (q : Dot) (b : Bool) → (q.name == r.own) ≡ b → is_compared at r.own q ≡ true → set.contains e.store.seen q ≡ set.contains one.store.seen q
     seen q true is h = e.alike.seen q is
     seen q false is h = e.others_too.seen q is ∙ a.seen q h ∙ sym (e.others.seen q is)
 
-    entries : (q : Dot) (b : Bool) → (q.name == r.own) ≡ b → kept at r.own q ≡ true → fin.get e.store.entries q ≡ fin.get one.store.entries q
+    entries : (q : Dot) (b : Bool) → (q.name == r.own) ≡ b → is_compared at r.own q ≡ true → fin.get e.store.entries q ≡ fin.get one.store.entries q
     entries q true is h = e.alike.entries q is
     entries q false is h = e.others_too.entries q is ∙ a.entries q h ∙ sym (e.others.entries q is)
 
 pub replica_less : (at to : Dot → Bool) (r s : Replica) → ((d : Dot) → to d ≡ true → at d ≡ true) → ReplicaAlike at r s → ReplicaAlike to r s
 replica_less at to r s less a =
-    record { store = a.store; is = a.is; alike = store_less (kept at r.own) (kept to r.own) r.store a.store (kept_less at to r.own less) a.alike }
+    record { store = a.store; is = a.is; alike = store_less (is_compared at r.own) (is_compared to r.own) r.store a.store (compared_less at to r.own less) a.alike }
 
 pub replica_then : (at : Dot → Bool) (r s t : Replica) → ReplicaAlike at r s → ReplicaAlike at s t → ReplicaAlike at r t
 replica_then at r s t a b = record {
   store = b.store;
   is = b.is ∙ ap (λ (x : Replica). record x { store = b.store }) a.is;
-  alike = store_then (kept at r.own) r.store a.store b.store a.alike (subst (λ (x : Replica). StoreAlike (kept at x.own) x.store b.store) a.is b.alike);
+  alike = store_then (is_compared at r.own) r.store a.store b.store a.alike (subst (λ (x : Replica). StoreAlike (is_compared at x.own) x.store b.store) a.is b.alike);
 }
 
 pub replica_same : (at : Dot → Bool) (r : Replica) → ReplicaAlike at r r
-replica_same at r = record { store = r.store; is = refl; alike = store_same (kept at r.own) r.store }
+replica_same at r = record { store = r.store; is = refl; alike = store_same (is_compared at r.own) r.store }

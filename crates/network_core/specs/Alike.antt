@@ -19,8 +19,8 @@ pub record Cares : Type 0 where
   pub of : ℕ → ℕ → Dot → Bool
 
 -- whether a dot matters in the store of a node, or is the node's own
-abbrev pub kept : (Dot → Bool) → ℕ → Dot → Bool
-kept at own d = at d || (d.name == own)
+abbrev pub is_compared : (Dot → Bool) → ℕ → Dot → Bool
+is_compared at own d = at d || (d.name == own)
 
 -- the stores agree at these dots: whether the dot is seen, and its entry if it has one
 pub record StoreAlike (asked : Dot → Bool) (s t : Store) : Type 0 where
@@ -48,7 +48,7 @@ SentAlike of xs ys = (i : ℕ) → BothAre (MessageAlike (of i)) (numbered xs i)
 pub record ReplicaAlike (at : Dot → Bool) (r s : Replica) : Type 0 where
   pub store : Store
   pub is : s ≡ record r { store = store }
-  pub alike : StoreAlike (kept at r.own) r.store store
+  pub alike : StoreAlike (is_compared at r.own) r.store store
 
 -- the nodes' replicas are alike, and so are the messages that they sent
 pub record NodeAlike (at : Dot → Bool) (of : ℕ → Dot → Bool) (x y : Node) : Type 0 where
@@ -90,7 +90,7 @@ pub record Narrows (c : Cluster) (k : Kept) (t u : Cares) : Type 0 where
   -- what matters in the message of an extract or an answer, of a name that it sends, mattered to its node before, or is
   -- the node's own
   pub sent : (x : Node) (names : Names) → slice_get c k.node ≡ Some x → sends_of c k.step ≡ Some names → (d : Dot) →
-      u.of k.node (suc (length x.outbox)) d ≡ true → set.contains names d.name ≡ true → kept (t.at k.node) x.replica.own d ≡ true
+      u.of k.node (suc (length x.outbox)) d ≡ true → set.contains names d.name ≡ true → is_compared (t.at k.node) x.replica.own d ≡ true
 
 -- from cluster c on, what matters after each of these steps comes from what matters before that step: t at first, and
 -- `end` at last

@@ -10,7 +10,7 @@ use Rattle.journal_core.specs.Journals.{Kept}
 use Rattle.bench_core.specs.Clusters.{Cluster, message_at, step}
 use Rattle.bench_core.specs.Laws.{delivery}
 use Rattle.bench_core.specs.Runs.{runs}
-use Rattle.network_core.specs.Alike.{Cares, ClusterAlike, Follows, kept}
+use Rattle.network_core.specs.Alike.{Cares, ClusterAlike, Follows, is_compared}
 use Rattle.network_core.specs.EasySteps.{GoesOn}
 use Rattle.network_core.specs.NetworkRuns.{IsNetworkRun, HaveSame, deliveries, how_many, is_delivery, is_of_kind, ordered}
 use Rattle.network_core.specs.Room.{made}
@@ -49,7 +49,7 @@ pub record IsCone (j : List Kept) (t : Cone) : Type 0 where
   -- what matters in the message of an extract or an answer, and can come from what its node has, matters to the node
   -- before that step, or is the node's own
   pub sent : (n : ℕ) (first rest : List Kept) (k : Kept) → ordered j n ≡ first ++ k ∷ rest → (d : Dot) → t.of n (sends_in first + 1) d ≡ true →
-      says k.step d.name ≡ true → kept (t.at n (length first)) n d ≡ true
+      says k.step d.name ≡ true → is_compared (t.at n (length first)) n d ≡ true
 
 -- if the cone is closed, then in each run of the network what matters after each step comes from what matters before it
 abbrev pub ConeLaw : Type 0

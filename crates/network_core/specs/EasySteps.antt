@@ -14,15 +14,15 @@ use Rattle.network_core.specs.Room.{made}
 
 -- whether a step is of a kind that is always easy: it concerns only its node's own entries, its delta and names it
 -- knows
-abbrev pub is_own : Operation → Bool
-is_own (Join presence) = true
-is_own (Leave pid topic key) = true
-is_own (LeaveAll pid) = true
-is_own (Update presence) = true
-is_own Broadcast = true
-is_own Request = true
-is_own (Down name) = true
-is_own _ = false
+abbrev pub is_always_easy : Operation → Bool
+is_always_easy (Join presence) = true
+is_always_easy (Leave pid topic key) = true
+is_always_easy (LeaveAll pid) = true
+is_always_easy (Update presence) = true
+is_always_easy Broadcast = true
+is_always_easy Request = true
+is_always_easy (Down name) = true
+is_always_easy _ = false
 
 -- the kept step with this number, of this node
 abbrev pub step_of : ℕ → ℕ → Operation → Kept
@@ -31,20 +31,20 @@ step_of number node s = record { number = number; node = node; step = s }
 -- step s of a node is easy after the steps `first`: it is of a kind that always is, or an up of a name that the node
 -- then knows
 pub data IsEasy (l : NodeLimits) (count : ℕ) (first : List Kept) (node : ℕ) (s : Operation) : Type 0 where
-  IsOwn : is_own s ≡ true → IsEasy l count first node s
+  IsAlwaysEasy : is_always_easy s ≡ true → IsEasy l count first node s
   IsKnownUp : (name : ℕ) → s ≡ Up name →
       ((c : Cluster) (x : Node) → runs l count first ≡ Ok c → slice_get c node ≡ Some x → is_known x.replica name ≡ true) → IsEasy l count first node s
 
 -- a step that an easy step of node n may pass: a delivery at n, or a step of another node
-abbrev pub MayBeFirst : ℕ → Kept → Type 0
-MayBeFirst n k = (k.node ≢ n) ⊎ ((k.node ≡ n) × ((sender : ℕ) × ((message : ℕ) × (k.step ≡ Deliver sender message))))
+abbrev pub MayBePassed : ℕ → Kept → Type 0
+MayBePassed n k = (k.node ≢ n) ⊎ ((k.node ≡ n) × ((sender : ℕ) × ((message : ℕ) × (k.step ≡ Deliver sender message))))
 
 -- an easy step may pass all steps directly before it that are deliveries at its node or steps of other nodes, and the
 -- run still ends in the same cluster, unless a step is then refused as `EntriesFull`
 abbrev pub EagerLaw : Type 0
 EagerLaw =
     (l : NodeLimits) (count number node : ℕ) (first before rest : List Kept) (s : Operation) → IsEasy l count first node s →
-    AllByRecursion (MayBeFirst node) before →
+    AllByRecursion (MayBePassed node) before →
     ((xs ys : List Kept) (k : Kept) → before ≡ xs ++ k ∷ ys →
     runs l count ((first ++ xs) ++ step_of number node s ∷ k ∷ []) ≢ Err EntriesFull) → (c : Cluster) →
     runs l count (first ++ (before ++ step_of number node s ∷ rest)) ≡ Ok c → runs l count (first ++ step_of number node s ∷ (before ++ rest)) ≡ Ok c

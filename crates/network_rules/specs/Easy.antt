@@ -8,14 +8,14 @@ use Rattle.replica_core.specs.Replicas.{is_known}
 use Rattle.node_core.specs.Operations.{Operation, Up}
 use Rattle.node_core.specs.Nodes.{Node}
 use Rattle.bench_core.specs.Clusters.{Cluster, message_at}
-use Rattle.network_core.specs.EasySteps.{is_own}
+use Rattle.network_core.specs.EasySteps.{is_always_easy}
 use Rattle.network_rules.specs.declared.turn.Turn.{Turn}
 use Rattle.network_rules.specs.Tables.{is_wanted, matter, Tables}
 use Rattle.network_rules.specs.Turns.{count_at}
 
 -- the step is easy at this cluster: it concerns only its node's own entries, delta and known names
 pub data IsEasyAt (c : Cluster) (node : ℕ) (s : Operation) : Type 0 where
-  IsOwn : is_own s ≡ true → IsEasyAt c node s
+  IsAlwaysEasy : is_always_easy s ≡ true → IsEasyAt c node s
   IsKnownUp : (name : ℕ) → s ≡ Up name → ((x : Node) → slice_get c node ≡ Some x → is_known x.replica name ≡ true) → IsEasyAt c node s
 
 -- the message has none of the dots that are asked for and have one of these names, unless the dot is the node's own

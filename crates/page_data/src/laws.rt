@@ -32,8 +32,9 @@ pub fn dots_law()
     ensures { DotsLaw }
 {}
 
-/// Among the steps that remain, `prev` and `from` lead from a later step back to an earlier one exactly if the later
-/// step follows from the earlier. (Danos and Krivine: causal undo.)
+/// In the JSON of a call, `prev` is the number of the node's step before the call's step, and `from` that of the step
+/// which sent what the call's step delivers. Among the steps that remain, a path by these two leads from a later step
+/// back to an earlier one exactly if the later step follows from the earlier. (Danos and Krivine: causal undo.)
 pub fn past_law()
     ensures { PastLaw }
 {}

@@ -20,14 +20,15 @@ use crate::shade::Drawn;
 use crate::sheet::Sheet;
 use crate::words::{title_of, words_of};
 use bench_core::{Bench, Event, History, Names, TextSet};
+use grammar_core::LONGEST_LINE;
 use payload_core::Oom;
 use report_core::ask;
 use std::alloc::Allocator;
 use transcript_core::CastRef;
 
 /// What is drawn of the recorded calls: the messages and the rows, which lie over the lanes; how many bytes the longest
-/// words of a drawn row have, at most 4096 (`longest`); and the changes of the lanes. At such a change a node begins or
-/// stops listing what is asked about.
+/// words of a drawn row have, at most `LONGEST_LINE` (`longest`); and the changes of the lanes. At such a change a node
+/// begins or stops listing what is asked about.
 #[derive(Drop)]
 pub struct Layers<'a, B: Allocator> {
     pub messages: String<&'a B>,
@@ -36,13 +37,17 @@ pub struct Layers<'a, B: Allocator> {
     pub switches: Vec<Switch, &'a B>,
 }
 
-/// The greater of `longest` and `bytes`. More than 4096 bytes, the most that a line of a script has, count as 4096.
+/// The greater of `longest` and `bytes`. More than `LONGEST_LINE` bytes count as `LONGEST_LINE`.
 #[tactic(auto, unfolding(crate::specs::Rows::with_length))]
 pub fn with_length(longest: u32, bytes: usize) -> u32
     ensures { result ≡ with_length longest bytes }
 {
     // form: `min` and `max`, spelled out for the proof
-    let bytes = if bytes > 4_096 { 4_096 } else { bytes as u32 };
+    let bytes = if bytes > LONGEST_LINE {
+        LONGEST_LINE as u32
+    } else {
+        bytes as u32
+    };
     if longest < bytes { bytes } else { longest }
 }
 
@@ -79,8 +84,8 @@ fn put_drawn<'a, N: Allocator, B: Allocator>(
     Ok(())
 }
 
-/// Notes in `layers` if the node that the call changed begins or stops listing what `sheet.of` asks about, and draws the
-/// call if its row is in the range. `asked` is the bench after the call.
+/// Notes in `layers` if the node that the call changed begins or stops listing what `sheet.of` asks about, and draws
+/// the call if its row is in the range. `asked` is the bench after the call.
 #[tactic(auto, unfolding(crate::specs::Rows::row_if, crate::specs::Rows::with_words))]
 fn put_told<'a, B: Allocator>(
     asked: &Bench<'a, B>,

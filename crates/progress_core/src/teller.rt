@@ -36,7 +36,7 @@ impl<'t, C: Clock, E: Write> Teller<'t, C, E> {
     /// A teller that has printed nothing yet. Seconds are counted from now on.
     pub fn new(heap: Global, clock: &'t C, errors: &'t mut E) -> Self
         ensures same_reference { result.errors.ghost_name ≡ errors.entry.ghost_name }
-        ensures kept { result.errors.now ≡ errors.old }
+        ensures errors { result.errors.now ≡ errors.old }
     {
         Teller {
             heap,

@@ -1,6 +1,6 @@
 pub mod Split
 pub mod Endings
-pub mod Kept
+pub mod LineFronts
 pub mod Printed
 pub mod Texts
 pub mod Turns

@@ -10,12 +10,12 @@ use Rattle.std.specs.Io.KnownBytes.{Appends, Keeps}
 use Rattle.bench_core.specs.Limits.{Limits}
 use Rattle.grammar_core.specs.Words.{lines_of}
 use Rattle.run_core.specs.Prompts.{Prompt, new_prompt}
-use Rattle.stream_core.specs.NextLines.{IsNext, kept}
+use Rattle.stream_core.specs.NextLines.{IsNext, line_front}
 use Rattle.stream_core.proofs.Pieces.{piece_more}
 use Rattle.prompt_core.specs.Responses.{response, is_quit}
 use Rattle.prompt_core.specs.Signs.{Shows, ShowsSign, read_lines, sign, signs, signs_of}
-use Rattle.prompt_core.specs.declared.stepping.TheConstants.{KEPT}
-use Rattle.prompt_core.proofs.Kept.{kept_response, kept_quit}
+use Rattle.prompt_core.specs.declared.stepping.TheConstants.{LINE_FRONT}
+use Rattle.prompt_core.proofs.LineFronts.{front_response, front_quit}
 use Rattle.prompt_core.proofs.Split.{IsSplit, More, Last, fed, some_line, split}
 
 -- the first line that is read of what is left, and then the others
@@ -139,16 +139,16 @@ module _ (help : List ℕ) (limits : Limits) where
 
   -- a line was taken in that doesn't end the prompt
   pub moved_on : (has shown : Bool) (input left rest : Option (List ℕ)) (prompt after : Prompt) (number : ℕ) (old new : Option (List ℕ)) (line : List ℕ) →
-      HasSignedSo has shown help limits input left prompt number old new → IsNext KEPT left rest (Some line) → is_quit line ≡ false →
+      HasSignedSo has shown help limits input left prompt number old new → IsNext LINE_FRONT left rest (Some line) → is_quit line ≡ false →
       after ≡ (response help prompt number line).0 → HasShownSo has shown help limits input rest after (number + 1) old new
   moved_on false shown input left rest prompt after number old new line come next on moved = come
   moved_on true shown None left rest prompt after number old new line come next on moved = tt
   moved_on true shown (Some input) None rest prompt after number old new line come next on moved = absurd come
   moved_on true shown (Some input) (Some left) rest prompt after number old new line come next on moved =
       let first = first_piece 10 left in
-      let first_on : is_quit first ≡ false = sym (kept_quit first) ∙ ap is_quit (sym next.1) ∙ on in
+      let first_on : is_quit first ≡ false = sym (front_quit first) ∙ ap is_quit (sym next.1) ∙ on in
       let after_is : (response help prompt number first).0 ≡ after =
-      sym (moved ∙ ap (λ (l : List ℕ). (response help prompt number l).0) next.1 ∙ ap (λ (a : Prompt × List ℕ). a.0) (kept_response help prompt number first)) in
+      sym (moved ∙ ap (λ (l : List ℕ). (response help prompt number l).0) next.1 ∙ ap (λ (a : Prompt × List ℕ). a.0) (front_response help prompt number first)) in
       let to_come : behind help prompt number (read_lines (lines_of left)) ≡ signs help after (number + 1) (read_lines (lines_of (drop_through 10 left))) =
       ap (behind help prompt number) (read_more left next.0)
       ∙ ap (λ (b : Bool). if b then [] else signs help (response help prompt number first).0 (number + 1) (read_lines (lines_of (drop_through 10 left)))) first_on

@@ -16,17 +16,17 @@ use Rattle.grammar_core.specs.Scripts.{Script}
 use Rattle.grammar_core.specs.declared.fault.ScriptFault.{ScriptFault}
 use Rattle.grammar_core.specs.Words.{lines_of}
 use Rattle.prompt_core.specs.Responses.{response, responses, is_quit}
-use Rattle.stream_core.specs.NextLines.{IsEndless, IsNext, TakesLine, TakesPart, kept}
+use Rattle.stream_core.specs.NextLines.{IsEndless, IsNext, TakesLine, TakesPart, line_front}
 use Rattle.stream_core.specs.Steps.{FailsAs as InputFailsAs, Steps}
 use Rattle.prompt_core.specs.Ends.{Responds, EndsEarly, FailsAs, HasNoQuit, IsCutShort, IsRead, ReportLaw, Reports, of_input, printed, unread}
-use Rattle.prompt_core.specs.declared.stepping.TheConstants.{KEPT}
+use Rattle.prompt_core.specs.declared.stepping.TheConstants.{LINE_FRONT}
 use Rattle.prompt_core.specs.declared.prompt_fault.PromptFault.{PromptFault}
 use Rattle.prompt_core.specs.declared.prompt_fault.PromptFault.TheVariants as prompts
 use Rattle.prompt_core.specs.declared.prompt_fault.PromptFault.TheVariants.{ReadFault, WriteFault}
 use Rattle.stream_core.specs.declared.stream_fault.InputFault.{InputFault}
 use Rattle.stream_core.specs.declared.stream_fault.InputFault.TheVariants as inputs
 use Rattle.prompt_core.proofs.Endings.{next_quits, none_quits, quits, unread_ended, unread_none, unread_on}
-use Rattle.prompt_core.proofs.Kept.{kept_response, kept_quit}
+use Rattle.prompt_core.proofs.LineFronts.{front_response, front_quit}
 use Rattle.stream_core.proofs.Pieces.{first_stays, is_line, rest_stays, some_taken, taken_whole}
 use Rattle.prompt_core.proofs.Printed.{next_responded, none_left}
 
@@ -195,15 +195,15 @@ module _ (help : List ℕ) (limits : Limits) where
 
   -- the same, where the reader's bytes are known
 
-  response_is : (prompt : Prompt) (number : ℕ) (left line : List ℕ) → line ≡ kept KEPT (first_piece 10 left) →
+  response_is : (prompt : Prompt) (number : ℕ) (left line : List ℕ) → line ≡ line_front LINE_FRONT (first_piece 10 left) →
       response help prompt number line ≡ response help prompt number (first_piece 10 left)
-  response_is prompt number left line is = ap (response help prompt number) is ∙ kept_response help prompt number (first_piece 10 left)
+  response_is prompt number left line is = ap (response help prompt number) is ∙ front_response help prompt number (first_piece 10 left)
 
-  quits_as : (left line : List ℕ) (b : Bool) → line ≡ kept KEPT (first_piece 10 left) → is_quit line ≡ b → is_quit (first_piece 10 left) ≡ b
-  quits_as left line b is quits_so = sym (kept_quit (first_piece 10 left)) ∙ ap is_quit (sym is) ∙ quits_so
+  quits_as : (left line : List ℕ) (b : Bool) → line ≡ line_front LINE_FRONT (first_piece 10 left) → is_quit line ≡ b → is_quit (first_piece 10 left) ≡ b
+  quits_as left line b is quits_so = sym (front_quit (first_piece 10 left)) ∙ ap is_quit (sym is) ∙ quits_so
 
   pub turned : (input left rest : Option (List ℕ)) (prompt after : Prompt) (number : ℕ) (old middle new : Option (List ℕ)) (line text : List ℕ) →
-      HasComeSo help limits input left prompt number old middle → IsNext KEPT left rest (Some line) → is_quit line ≡ false →
+      HasComeSo help limits input left prompt number old middle → IsNext LINE_FRONT left rest (Some line) → is_quit line ≡ false →
       text ≡ (response help prompt number line).1 → after ≡ (response help prompt number line).0 → Appends middle new text → HasComeSo help limits input rest after (number + 1) old new
   turned None left rest prompt after number old middle new line text come next on told moved out = tt
   turned (Some input) None rest prompt after number old middle new line text come next on told moved out = absurd come
@@ -214,14 +214,14 @@ module _ (help : List ℕ) (limits : Limits) where
       (moved ∙ ap (λ (a : Prompt × List ℕ). a.0) (response_is prompt number left line next.1)) out)
 
   pub ended : (input left rest : Option (List ℕ)) (prompt : Prompt) (number : ℕ) (old new : Option (List ℕ)) →
-      HasComeSo help limits input left prompt number old new → IsNext KEPT left rest None → Responds help limits input old new
+      HasComeSo help limits input left prompt number old new → IsNext LINE_FRONT left rest None → Responds help limits input old new
   ended None left rest prompt number old new come next = tt
   ended (Some input) None rest prompt number old new come next = absurd come
   ended (Some input) (Some left) rest prompt number old new come next = end input left prompt number old new come next.0
 
   -- to its end
   pub end_read : (input left rest : Option (List ℕ)) (prompt : Prompt) (number : ℕ) (old new : Option (List ℕ)) →
-      HasComeSo help limits input left prompt number old new → IsNext KEPT left rest None → IsRead input rest
+      HasComeSo help limits input left prompt number old new → IsNext LINE_FRONT left rest None → IsRead input rest
   end_read None left rest prompt number old new come next = tt
   end_read (Some input) None rest prompt number old new come next = absurd come
   end_read (Some input) (Some left) rest prompt number old new come next =
@@ -230,14 +230,14 @@ module _ (help : List ℕ) (limits : Limits) where
   -- a line was taken in that ends the prompt
 
   pub ended_by : (input left rest : Option (List ℕ)) (prompt : Prompt) (number : ℕ) (old new : Option (List ℕ)) (line : List ℕ) →
-      HasComeSo help limits input left prompt number old new → IsNext KEPT left rest (Some line) → is_quit line ≡ true → Responds help limits input old new
+      HasComeSo help limits input left prompt number old new → IsNext LINE_FRONT left rest (Some line) → is_quit line ≡ true → Responds help limits input old new
   ended_by None left rest prompt number old new line come next ends = tt
   ended_by (Some input) None rest prompt number old new line come next ends = absurd come
   ended_by (Some input) (Some left) rest prompt number old new line come next ends =
       end_by input left prompt number old new come (quits_as left line true next.1 ends)
 
   pub read_by : (input left rest : Option (List ℕ)) (prompt : Prompt) (number : ℕ) (old new : Option (List ℕ)) (line : List ℕ) →
-      HasComeSo help limits input left prompt number old new → IsNext KEPT left rest (Some line) → is_quit line ≡ true → IsRead input rest
+      HasComeSo help limits input left prompt number old new → IsNext LINE_FRONT left rest (Some line) → is_quit line ≡ true → IsRead input rest
   read_by None left rest prompt number old new line come next ends = tt
   read_by (Some input) None rest prompt number old new line come next ends = absurd come
   read_by (Some input) (Some left) rest prompt number old new line come next ends =
@@ -280,7 +280,7 @@ module _ (help : List ℕ) (limits : Limits) where
       cut input left prompt number old new fault [] left come refl (All-nil (λ b. b ≢ 10)) (λ is. All-nil (λ b. b ≢ 10))
 
   pub cut_writing : (input left rest : Option (List ℕ)) (prompt : Prompt) (number : ℕ) (old middle new : Option (List ℕ)) (line text : List ℕ) (count : ℕ) →
-      HasComeSo help limits input left prompt number old middle → IsNext KEPT left rest (Some line) → is_quit line ≡ false →
+      HasComeSo help limits input left prompt number old middle → IsNext LINE_FRONT left rest (Some line) → is_quit line ≡ false →
       text ≡ (response help prompt number line).1 → Appends middle new (take count text) → EndsEarly help limits WriteFault input rest old new
   cut_writing None left rest prompt number old middle new line text count come next on told out = tt
   cut_writing (Some input) None rest prompt number old middle new line text count come next on told out = absurd come

@@ -23,8 +23,8 @@ use std::marker::Brand;
 use std::sync::ledger::{Blank, Ledger};
 use stream_core::{Steps, next_line};
 
-/// How many bytes of a line are kept at most. A line of a script has fewer, so a line with this many bytes is too long.
-const KEPT: usize = LONGEST_LINE + 1;
+/// The most bytes of a line that stay in memory. A line of a script has fewer, so a line with this many is too long.
+const LINE_FRONT: usize = LONGEST_LINE + 1;
 
 /// Responds to each line before it reads the next, to the end of the input or a line that ends the prompt. The prompt
 /// must have taken no line yet. If the setting has signs, shows a sign on `errors` before it reads each line, until
@@ -51,7 +51,7 @@ fn respond_each<'a, B: Allocator, R: Read, W: Write, E: Write, L: Ledger>(
     // form: a bound that no input reaches, so that the loop ends
     for number in 1..u64::MAX {
         is_shown = show_sign(prompt, setting.alloc, errors, is_shown);
-        let Some(line) = next_line(setting.alloc, reader, KEPT, steps)? else {
+        let Some(line) = next_line(setting.alloc, reader, LINE_FRONT, steps)? else {
             return Ok(());
         };
         if is_quit(line.as_slice()) {

@@ -119,7 +119,7 @@ impl<'a, B: Allocator> Prompt<'a, B> {
     #[tactic(auto, unfolding(crate::specs::Prompts::taken))]
     pub fn take(&mut self, text: &mut String<&'a B>, line: &[u8]) -> Result<(), FaultKind>
         ensures taken { Gives (λ _. (self.new, string_bytes text.new)) result (taken self.old (string_bytes text.old) line.now) }
-        ensures kept { IfErr result (λ kind. kind ≢ OutOfMemory → self.new ≡ self.old) }
+        ensures unchanged { IfErr result (λ kind. kind ≢ OutOfMemory → self.new ≡ self.old) }
         ensures unprinted { IfErr result (λ kind. kind ≢ OutOfMemory → string_bytes text.new ≡ string_bytes text.old) }
     {
         // form: taken out for the edit, and put back

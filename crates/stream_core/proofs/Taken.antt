@@ -7,15 +7,15 @@ use Rattle.std.specs.List.{All}
 use Rattle.std.specs.Io.{StopsAt}
 use Rattle.std.specs.Io.BufRead.{drop_through, first_piece}
 use Rattle.std.specs.Io.KnownBytes.{Consumes, IsAtEnd, Keeps}
-use Rattle.stream_core.specs.NextLines.{IsEndless, IsNext, TakesLine, TakesPart, kept}
+use Rattle.stream_core.specs.NextLines.{IsEndless, IsNext, TakesLine, TakesPart, line_front}
 use Rattle.stream_core.proofs.Pieces.{piece_fed, piece_whole, rest_fed, rest_none}
 
--- these bytes of a line, none of them a line feed, were taken in, and this is kept of them
+-- these bytes of a line, none of them a line feed, were taken in, and this is their front
 pub record IsBegun (most : ℕ) (old now : Option (List ℕ)) (line : List ℕ) (turn : ℕ) : Type 0 where
   pub bytes : List ℕ
   pub taken : Consumes old now bytes
   pub unfed : All (λ b. b ≢ 10) bytes
-  pub is_kept : line ≡ kept most bytes
+  pub is_front : line ≡ line_front most bytes
   pub turns : length bytes ≡ turn
 
 take_none : (most : ℕ) → take {A = ℕ} most [] ≡ []
@@ -23,47 +23,47 @@ take_none zero = refl
 take_none (suc most) = refl
 
 pub begins : (most : ℕ) (old : Option (List ℕ)) → IsBegun most old old [] 0
-unfolding kept
-begins most old = record { bytes = []; taken = Consumes-nil old; unfed = All-nil (λ b. b ≢ 10); is_kept = sym (take_none most); turns = refl }
+unfolding line_front
+begins most old = record { bytes = []; taken = Consumes-nil old; unfed = All-nil (λ b. b ≢ 10); is_front = sym (take_none most); turns = refl }
 
--- one more byte is kept, where there is room
-kept_more : (most : ℕ) (bytes line : List ℕ) (byte : ℕ) → line ≡ kept most bytes → length line < most → line ++ byte ∷ [] ≡ kept most (bytes ++ byte ∷ [])
-unfolding kept
-kept_more most bytes line byte is room =
+-- one more byte is in the front, where there is room
+front_more : (most : ℕ) (bytes line : List ℕ) (byte : ℕ) → line ≡ line_front most bytes → length line < most → line ++ byte ∷ [] ≡ line_front most (bytes ++ byte ∷ [])
+unfolding line_front
+front_more most bytes line byte is room =
     let few : length bytes < most = omega (arith, length-take most bytes, ap length is) in
     ap (λ (l : List ℕ). l ++ byte ∷ []) (is ∙ take_all most bytes (omega arith))
     ∙ sym (take_all most (bytes ++ byte ∷ []) (omega (arith, length-append bytes (byte ∷ []))))
 
-kept_full : (most : ℕ) (bytes line : List ℕ) (byte : ℕ) → line ≡ kept most bytes → most ≤ length line → line ≡ kept most (bytes ++ byte ∷ [])
-unfolding kept
-kept_full most bytes line byte is full =
+front_full : (most : ℕ) (bytes line : List ℕ) (byte : ℕ) → line ≡ line_front most bytes → most ≤ length line → line ≡ line_front most (bytes ++ byte ∷ [])
+unfolding line_front
+front_full most bytes line byte is full =
     is ∙ sym (take-append-le most bytes (byte ∷ []) (omega (arith, length-take most bytes, ap length is)))
 
-pub few_kept : (most : ℕ) (bytes line : List ℕ) → line ≡ kept most bytes → length line ≤ most
-unfolding kept
-few_kept most bytes line is = omega (arith, length-take most bytes, ap length is)
+pub few_in_front : (most : ℕ) (bytes line : List ℕ) → line ≡ line_front most bytes → length line ≤ most
+unfolding line_front
+few_in_front most bytes line is = omega (arith, length-take most bytes, ap length is)
 
 module _ (most : ℕ) (old now new : Option (List ℕ)) (line : List ℕ) (turn : ℕ) where
   goes_on : (line' : List ℕ) (byte : ℕ) (begun : IsBegun most old now line turn) → Consumes now new (byte ∷ []) → byte ≢ 10 →
-      line' ≡ kept most (begun.bytes ++ byte ∷ []) → IsBegun most old new line' (turn + 1)
+      line' ≡ line_front most (begun.bytes ++ byte ∷ []) → IsBegun most old new line' (turn + 1)
   goes_on line' byte begun took other is =
       record {
         bytes = begun.bytes ++ byte ∷ [];
         taken = Consumes-trans old now new begun.bytes (byte ∷ []) begun.taken took;
         unfed = All-push (λ b. b ≢ 10) begun.bytes byte begun.unfed other;
-        is_kept = is;
+        is_front = is;
         turns = omega (arith, length-append begun.bytes (byte ∷ []), begun.turns);
       }
 
-  -- a byte was taken in, and kept
+  -- a byte was taken in, and is in the front
   pub grows : (byte : ℕ) → IsBegun most old now line turn → Consumes now new (byte ∷ []) → byte ≢ 10 → length line < most →
       IsBegun most old new (line ++ byte ∷ []) (turn + 1)
   grows byte begun took other room =
-      goes_on (line ++ byte ∷ []) byte begun took other (kept_more most begun.bytes line byte begun.is_kept room)
+      goes_on (line ++ byte ∷ []) byte begun took other (front_more most begun.bytes line byte begun.is_front room)
 
-  -- and not kept
+  -- and isn't
   pub stays : (byte : ℕ) → IsBegun most old now line turn → Consumes now new (byte ∷ []) → byte ≢ 10 → most ≤ length line → IsBegun most old new line (turn + 1)
-  stays byte begun took other full = goes_on line byte begun took other (kept_full most begun.bytes line byte begun.is_kept full)
+  stays byte begun took other full = goes_on line byte begun took other (front_full most begun.bytes line byte begun.is_front full)
 
   -- no more than a line was taken in
 
@@ -104,15 +104,15 @@ not_none : (bytes rest : List ℕ) (byte : ℕ) → bytes ++ byte ∷ rest ≢ [
 not_none [] rest byte = λ none. cc
 not_none (b ∷ bytes) rest byte = λ none. cc
 
-kept_nil : (most : ℕ) (bytes : List ℕ) → bytes ≡ [] → kept most bytes ≡ []
-unfolding kept
-kept_nil most bytes none = ap (take most) none ∙ take_none most
+front_nil : (most : ℕ) (bytes : List ℕ) → bytes ≡ [] → line_front most bytes ≡ []
+unfolding line_front
+front_nil most bytes none = ap (take most) none ∙ take_none most
 
 module _ (most : ℕ) (line : List ℕ) (turn : ℕ) where
   fed : (left rest : List ℕ) → IsBegun most (Some left) (Some (10 ∷ rest)) line turn → IsNext most (Some left) (Some rest) (Some line)
   fed left rest begun = (
     λ none. not_none begun.bytes rest 10 (sym begun.taken ∙ none),
-    begun.is_kept ∙ ap (kept most) (sym (piece_fed begun.bytes rest begun.unfed) ∙ ap (first_piece 10) (sym begun.taken)),
+    begun.is_front ∙ ap (line_front most) (sym (piece_fed begun.bytes rest begun.unfed) ∙ ap (first_piece 10) (sym begun.taken)),
     ap Some (sym (rest_fed begun.bytes rest begun.unfed) ∙ ap (drop_through 10) (sym begun.taken)),
   )
 
@@ -131,8 +131,8 @@ module _ (most : ℕ) (line : List ℕ) (turn : ℕ) where
   unfed_end : (left rest : List ℕ) → IsBegun most (Some left) (Some rest) line turn → line ≢ [] → rest ≡ [] → IsNext most (Some left) (Some rest) (Some line)
   unfed_end left rest begun some none =
       let is = bytes_are left rest begun none in (
-        λ nothing. some (begun.is_kept ∙ kept_nil most begun.bytes (sym is ∙ nothing)),
-        begun.is_kept ∙ ap (kept most) (sym (piece_whole begun.bytes begun.unfed) ∙ ap (first_piece 10) (sym is)),
+        λ nothing. some (begun.is_front ∙ front_nil most begun.bytes (sym is ∙ nothing)),
+        begun.is_front ∙ ap (line_front most) (sym (piece_whole begun.bytes begun.unfed) ∙ ap (first_piece 10) (sym is)),
         ap Some (none ∙ sym (rest_none begun.bytes begun.unfed) ∙ ap (drop_through 10) (sym is)),
       )
 
@@ -143,13 +143,13 @@ module _ (most : ℕ) (line : List ℕ) (turn : ℕ) where
   ends_unfed (Some left) (Some rest) (Some after) begun some same end =
       unfed_end left after (subst (λ (l : List ℕ). IsBegun most (Some left) (Some l) line turn) (sym same) begun) some end
 
-kept_none : (most : ℕ) (bytes : List ℕ) → 0 < most → [] ≡ kept most bytes → bytes ≡ []
-unfolding kept
-kept_none most [] some is = refl
-kept_none most (b ∷ bytes) some is = absurd (omega (arith, length-take most (b ∷ bytes), ap length is))
+front_none : (most : ℕ) (bytes : List ℕ) → 0 < most → [] ≡ line_front most bytes → bytes ≡ []
+unfolding line_front
+front_none most [] some is = refl
+front_none most (b ∷ bytes) some is = absurd (omega (arith, length-take most (b ∷ bytes), ap length is))
 
 none_end : (most : ℕ) (left rest : List ℕ) (turn : ℕ) → 0 < most → IsBegun most (Some left) (Some rest) [] turn → rest ≡ [] → IsNext most (Some left) (Some rest) None
-none_end most left rest turn some begun none = (bytes_are most [] turn left rest begun none ∙ kept_none most begun.bytes some begun.is_kept, ap Some none)
+none_end most left rest turn some begun none = (bytes_are most [] turn left rest begun none ∙ front_none most begun.bytes some begun.is_front, ap Some none)
 
 pub ends_before : (most : ℕ) (old now new : Option (List ℕ)) (line : List ℕ) (turn : ℕ) → 0 < most → line ≡ [] → IsBegun most old now line turn → Keeps now new →
     IsAtEnd new → IsNext most old new None

@@ -5,15 +5,15 @@ use Rattle.std.specs.List.{All}
 use Rattle.std.specs.Io.BufRead.{drop_through, first_piece}
 use Rattle.std.specs.Io.KnownBytes.{Consumes}
 
--- what is kept of a line: all of it, or the beginning of a longer one
-unfoldable pub kept : ℕ → List ℕ → List ℕ
-kept most line = take most line
+-- the front of a line: all of it, or the beginning of a longer one
+unfoldable pub line_front : ℕ → List ℕ → List ℕ
+line_front most line = take most line
 
--- the next line of what a reader has left, as far as it is kept; or nothing at its end
+-- the front of the next line of what a reader has left; or nothing at its end
 abbrev pub IsNext : ℕ → Option (List ℕ) → Option (List ℕ) → Option (List ℕ) → Type 0
 IsNext most None new line = ⊤
 IsNext most (Some left) new None = (left ≡ []) × (new ≡ Some [])
-IsNext most (Some left) new (Some line) = (left ≢ []) × (line ≡ kept most (first_piece 10 left)) × (new ≡ Some (drop_through 10 left))
+IsNext most (Some left) new (Some line) = (left ≢ []) × (line ≡ line_front most (first_piece 10 left)) × (new ≡ Some (drop_through 10 left))
 
 -- the input has more bytes than a number can count
 abbrev pub IsEndless : Option (List ℕ) → Type 0

@@ -1,4 +1,4 @@
-//! Reads the next line of a reader, and keeps only the beginning of a line that is too long.
+//! Reads the next line of a reader; of a line that is too long only the beginning stays in memory.
 ghost use Rattle.std.specs.Prelude.{◌≡◌, ◌∷◌, [], ◌<◌, ◌≤◌, IfErr, IfOk, IfSome, OnErr, option_map, vec_items, vec_len};
 ghost use Rattle.std.specs.Io.KnownBytes.{Consumes, IsAtEnd, Keeps};
 ghost use Rattle.stream_core.specs.NextLines.{IsEndless, IsNext, TakesLine, TakesPart};
@@ -18,7 +18,7 @@ fn next_byte<R: Read, L: Ledger>(
 ) -> Result<Option<u8>, InputFault>
     ensures some { IfOk result (λ byte. IfSome byte (λ byte. Consumes (R.remaining reader.old) (R.remaining reader.new) (byte ∷ []))) }
     ensures none { result ≡ Ok None → IsAtEnd (R.remaining reader.new) }
-    ensures kept { result ≡ Ok None → Keeps (R.remaining reader.old) (R.remaining reader.new) }
+    ensures unchanged { result ≡ Ok None → Keeps (R.remaining reader.old) (R.remaining reader.new) }
     ensures err { OnErr result (Keeps (R.remaining reader.old) (R.remaining reader.new)) }
     ensures fault { IfErr result (λ fault. fault ≡ ReadFault) }
     ensures failed { FailsAs result steps.old steps.new }

@@ -47,7 +47,7 @@ returns g c =
     let same : map note_of c.let_go.new.notes.items ≡ notes = c.in_ok-let_go.ensures.notes ∙ none_gone notes none in
     record {
       rounds = suc r;
-      kept_are = c.in_ok-let_go.ensures.notes ∙ ap staying c.rounds.invariant.1;
+      rest_are = c.in_ok-let_go.ensures.notes ∙ ap staying c.rounds.invariant.1;
       left_are = c.in_ok-let_go.ensures.left_out ∙ ap (λ l. l ++ gone notes) c.rounds.invariant.2 ∙ ap (λ (ns : List Note). gone_in_rounds r first ++ gone ns) c.rounds.invariant.1;
       done = ap gone same ∙ no_lines (gone notes) none;
     }

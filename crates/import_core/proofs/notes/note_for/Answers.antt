@@ -15,12 +15,12 @@ returns-clause-note g c =
     let d : AllTables = all_of c.sent_by.new.tables in
     let e : AllTables = all_of c.step_for.new.tables in
     let f : AllTables = all_of c.listed_for.new.tables in
-    let last : Keeps e f = c.listed_for.ensures.kept in
-    let two : Keeps d f = keeps_both d e f c.step_for.ensures.kept last in
+    let last : Keeps e f = c.listed_for.ensures.extends in
+    let two : Keeps d f = keeps_both d e f c.step_for.ensures.extends last in
     let event = shown_event c.args.line.now.event in
     record {
       number = refl;
-      node = later_node b f (keeps_both b d f c.sent_by.ensures.kept two) c.args.line.now.node.now c.in_ok-node.node c.in_ok-node.ensures.node;
+      node = later_node b f (keeps_both b d f c.sent_by.ensures.extends two) c.args.line.now.node.now c.in_ok-node.node c.in_ok-node.ensures.node;
       few = c.in_ok-node.ensures.few;
       step = later_maybe e f last event _ (maybe_step e event c.in_ok-step.step c.in_ok-step.ensures.step c.in_ok-step.ensures.some);
       waits = c.awaited-waits.ensures;

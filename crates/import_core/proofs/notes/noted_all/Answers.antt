@@ -27,7 +27,7 @@ returns-in-Err-clause-fault g c =
       notes = notes;
       there = subst (λ n. i < n) (sym (length-map lines (λ line. line.now))) c.loop-index-test.true;
       before = subst (λ ls. AreNoted new ls notes) (take_map (λ line. line.now) i lines)
-          (later_noted old new c.add_line.ensures.kept (map (λ line. line.now) (take i lines)) notes c.loop-index.invariant.noted);
+          (later_noted old new c.add_line.ensures.extends (map (λ line. line.now) (take i lines)) notes c.loop-index.invariant.noted);
       few = λ low. subst (λ ns. length ns ≤ 32) seen (c.loop-index.invariant.few low);
       wrong = subst (λ ns. IsWrong ns (slice_index_or texts i []) c.in-Err.kind) seen (subst (λ l. IsWrong old.nodes l c.in-Err.kind) (sym (get_or-map (λ line. line.now) lines i (record { ref_ptr = (0, 0); now = [] }) [] c.loop-index-test.true)) c.in-Err.ensures.wrong);
     }))
@@ -52,7 +52,7 @@ loop-index-preserved g c =
     record {
       noted = subst (λ ls. AreNoted new ls after) (sym more)
           (subst (λ ns. AreNoted new (before ++ line ∷ []) ns) (sym adds.2)
-          (noted_more new (i + 1) before notes line adds.0 (omega (arith, long)) (later_noted old new c.add_line.ensures.kept before notes c.loop-index.invariant.noted) adds.1));
+          (noted_more new (i + 1) before notes line adds.0 (omega (arith, long)) (later_noted old new c.add_line.ensures.extends before notes c.loop-index.invariant.noted) adds.1));
       seen = c.in_default.ensures.seen ∙ ap (λ ns. with_texts ns (names_if (said line))) c.loop-index.invariant.seen
           ∙ names_more c.args.tables.now.nodes before line ∙ ap (λ ls. with_texts c.args.tables.now.nodes (names_on ls)) (sym more);
       few = λ low. c.in_default.ensures.few (c.loop-index.invariant.few low);

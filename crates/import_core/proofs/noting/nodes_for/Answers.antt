@@ -27,7 +27,7 @@ loop-value-preserved g c =
       | in-Some+in_ok-node w ↦
           let new : AllTables = all_of w.node.new.self in
           rw (w.tables-is, w.nodes-is) (record {
-            kept = keeps_both (all_of c.args.tables.now) old new c.loop-value.invariant.kept w.node.ensures.kept;
+            kept = keeps_both (all_of c.args.tables.now) old new c.loop-value.invariant.kept w.node.ensures.extends;
             seen = ap (λ ns. with_texts ns rest) w.in_ok-node.ensures.seen ∙ ap (λ o. with_texts old.nodes (text_if o ++ rest)) w.in-Some.ensures ∙ left;
             nodes = λ t all keeps rest.
                 let here : NodeIn t c.loop-value.nodes (Some w.in-Some.name.now) (λ more. AreNodesOf t more (items_view (drop (i + 1) names)) all) = (
@@ -35,7 +35,7 @@ loop-value-preserved g c =
                   later_node new t keeps w.in-Some.name.now w.in_ok-node.field-0 w.in_ok-node.ensures.node,
                   subst (λ ns. AreNodesOf t ns (items_view (drop (i + 1) names)) all) w.with-nodes.ensures rest,
                 ) in
-                c.loop-value.invariant.nodes t all (keeps_both old new t w.node.ensures.kept keeps)
+                c.loop-value.invariant.nodes t all (keeps_both old new t w.node.ensures.extends keeps)
                 (subst (λ vs. AreNodesOf t c.loop-value.nodes (items_view vs) all) (sym at)
                 (subst (λ o. NodeIn t c.loop-value.nodes o (λ more. AreNodesOf t more (items_view (drop (i + 1) names)) all)) w.in-Some.ensures here));
           })

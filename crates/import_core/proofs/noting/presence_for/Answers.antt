@@ -10,9 +10,9 @@ returns-clause-presence g c =
     let d : AllTables = all_of c.word.new.self in
     let e : AllTables = all_of c.word-2.new.self in
     let f : AllTables = all_of c.word-3.new.self in
-    let last : Keeps e f = c.word-3.ensures.kept in
-    let two : Keeps d f = keeps_both d e f c.word-2.ensures.kept last in
-    let three : Keeps b f = keeps_both b d f c.word.ensures.kept two in
+    let last : Keeps e f = c.word-3.ensures.extends in
+    let two : Keeps d f = keeps_both d e f c.word-2.ensures.extends last in
+    let three : Keeps b f = keeps_both b d f c.word.ensures.extends two in
     record {
       pid = later_pid b f three (view c.args.tracked.now.pid.now) c.in_ok-pid.pid c.in_ok-pid.ensures.pid;
       topic = later_word d f two (view c.args.tracked.now.topic.now) c.in_ok-topic.topic c.in_ok-topic.ensures.word;
@@ -20,11 +20,11 @@ returns-clause-presence g c =
       metadata = c.in_ok-metadata.ensures.word;
     }
 
-pub returns-clause-kept : goal.returns-clause-kept
-returns-clause-kept g c =
+pub returns-clause-extends : goal.returns-clause-extends
+returns-clause-extends g c =
     let a : AllTables = all_of c.args.tables.now in
     let b : AllTables = all_of c.pid.new.self in
     let d : AllTables = all_of c.word.new.self in
     let e : AllTables = all_of c.word-2.new.self in
     let f : AllTables = all_of c.word-3.new.self in
-    keeps_both a d f (keeps_both a b d c.pid.ensures.kept c.word.ensures.kept) (keeps_both d e f c.word-2.ensures.kept c.word-3.ensures.kept)
+    keeps_both a d f (keeps_both a b d c.pid.ensures.extends c.word.ensures.extends) (keeps_both d e f c.word-2.ensures.extends c.word-3.ensures.extends)

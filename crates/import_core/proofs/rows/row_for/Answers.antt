@@ -10,7 +10,7 @@ returns-clause-row g c =
     let d : AllTables = all_of c.presence_for.new.tables in
     let p = c.in_ok-p.ensures.presence in
     record {
-      node = later_node b d c.presence_for.ensures.kept c.args.row.now.node.now c.in_ok-name.name c.in_ok-name.ensures.node;
+      node = later_node b d c.presence_for.ensures.extends c.args.row.now.node.now c.in_ok-name.name c.in_ok-name.ensures.node;
       pid = p.pid;
       topic = p.topic;
       key = p.key;
@@ -18,6 +18,6 @@ returns-clause-row g c =
       clock = refl;
     }
 
-pub returns-clause-kept : goal.returns-clause-kept
-returns-clause-kept g c =
-    keeps_both (all_of c.args.tables.now) (all_of c.node.new.self) (all_of c.presence_for.new.tables) c.node.ensures.kept c.presence_for.ensures.kept
+pub returns-clause-extends : goal.returns-clause-extends
+returns-clause-extends g c =
+    keeps_both (all_of c.args.tables.now) (all_of c.node.new.self) (all_of c.presence_for.new.tables) c.node.ensures.extends c.presence_for.ensures.extends

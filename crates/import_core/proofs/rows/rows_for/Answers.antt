@@ -14,9 +14,9 @@ use Rattle.import_core.proofs.LaterNotes.{later_row}
 use Rattle.import_core.proofs.rows.rows_for.Goals as goal
 use Rattle.import_core.proofs.rows.rows_for.Goals.{in-Some+in_ok-row+in_ok-add_row, in_default}
 
-pub returns-in_err-add_row-clause-kept : goal.returns-in_err-add_row-clause-kept
-returns-in_err-add_row-clause-kept g c =
-    keeps_both (all_of c.args.tables.now) (all_of c.loop-value.tables) (all_of c.row_for.new.tables) c.loop-value.invariant.kept c.row_for.ensures.kept
+pub returns-in_err-add_row-clause-extends : goal.returns-in_err-add_row-clause-extends
+returns-in_err-add_row-clause-extends g c =
+    keeps_both (all_of c.args.tables.now) (all_of c.loop-value.tables) (all_of c.row_for.new.tables) c.loop-value.invariant.kept c.row_for.ensures.extends
 
 pub loop-value-preserved : goal.loop-value-preserved
 loop-value-preserved g c =
@@ -33,7 +33,7 @@ loop-value-preserved g c =
       | in-Some+in_ok-row+in_ok-add_row w ↦
           let new : AllTables = all_of w.row_for.new.tables in
           rw (w.tables-is, w.rows-is) (record {
-            kept = keeps_both (all_of c.args.tables.now) old new c.loop-value.invariant.kept w.row_for.ensures.kept;
+            kept = keeps_both (all_of c.args.tables.now) old new c.loop-value.invariant.kept w.row_for.ensures.extends;
             seen = ap (λ ns. with_texts ns rest) w.in_ok-row.ensures.seen ∙ ap (λ o. with_texts old.nodes (node_if o ++ rest)) w.in-Some.ensures ∙ left;
             rows = λ t all keeps rest.
                 let here : RowIn t found (Some (shown_row w.in-Some.listed)) (λ more. AreRowsOf t more (items_view (drop (i + 1) values)) all) = (
@@ -41,7 +41,7 @@ loop-value-preserved g c =
                   later_row new t keeps (shown_row w.in-Some.listed) w.in_ok-row.row w.in_ok-row.ensures.row,
                   subst (λ rs. AreRowsOf t rs (items_view (drop (i + 1) values)) all) w.in_ok-add_row.ensures rest,
                 ) in
-                c.loop-value.invariant.rows t all (keeps_both old new t w.row_for.ensures.kept keeps)
+                c.loop-value.invariant.rows t all (keeps_both old new t w.row_for.ensures.extends keeps)
                 (subst (λ vs. AreRowsOf t found (items_view vs) all) (sym at)
                 (subst (λ o. RowIn t found o (λ more. AreRowsOf t more (items_view (drop (i + 1) values)) all)) w.in-Some.ensures here));
           })

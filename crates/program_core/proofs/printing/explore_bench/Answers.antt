@@ -41,11 +41,11 @@ returns-in-Err-clause-progress g c =
     let start = c.new-teller.result in
     let told = c.tell_explored-told.ensures.watched start (refl, told_nothing (λ work. walked_line work) start.able (g.E.Write.contents start.errors.now)) in
     let same = c.errors-1.given.1 (sym (told.0 ∙ c.new-teller.ensures.same_reference)) in
-    subst₂ (λ old new. TellsWalked (g.E.Write.contents old) (g.E.Write.contents new)) c.new-teller.ensures.kept (sym same) told.1.part
+    subst₂ (λ old new. TellsWalked (g.E.Write.contents old) (g.E.Write.contents new)) c.new-teller.ensures.errors (sym same) told.1.part
 
 pub returns-clause-progress : goal.returns-clause-progress
 returns-clause-progress g c =
     let start = c.new-teller.result in
     let told = c.tell_explored-told.ensures.watched start (refl, told_nothing (λ work. walked_line work) start.able (g.E.Write.contents start.errors.now)) in
     let same = c.errors-1.given.1 (sym (told.0 ∙ c.new-teller.ensures.same_reference)) in
-    subst₂ (λ old new. TellsWalked (g.E.Write.contents old) (g.E.Write.contents new)) c.new-teller.ensures.kept (sym same) told.1.part
+    subst₂ (λ old new. TellsWalked (g.E.Write.contents old) (g.E.Write.contents new)) c.new-teller.ensures.errors (sym same) told.1.part

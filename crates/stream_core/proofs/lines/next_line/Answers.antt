@@ -1,7 +1,7 @@
 use Rattle.std.proofs.Common.{◌≡◌, ◌≢◌, ◌∷◌, [], ◌<◌, ◌≤◌, length, Ok, ap, refl, ◌∙◌, arith}
 use Rattle.std.specs.Io.KnownBytes.{Consumes}
 use Rattle.std.proofs.lemmas.Grind.{common_steps}
-use Rattle.stream_core.proofs.Taken.{begins, endless, ends_before, ends_fed, ends_unfed, few_kept, grows, stays, takes, takes_more, takes_part}
+use Rattle.stream_core.proofs.Taken.{begins, endless, ends_before, ends_fed, ends_unfed, few_in_front, grows, stays, takes, takes_more, takes_part}
 use Rattle.stream_core.proofs.lines.next_line.Goals as goal
 use Rattle.stream_core.proofs.lines.next_line.Goals.{then-len-most+in_ok-push, else-len-most}
 
@@ -22,18 +22,18 @@ pub returns-then-is_empty-clause-next : goal.returns-then-is_empty-clause-next
 returns-then-is_empty-clause-next g c =
     let none : c.loop-turn.line.items ≡ [] = grind (arith, common_steps, c.if-is_empty.ensures) in
     ends_before c.args.most _ (g.R.Read.remaining c.loop-turn.reader) _ c.loop-turn.line.items _ c.requires none c.loop-turn.invariant.begun
-    (c.in_ok-byte.ensures.kept (ap Ok c.in_default.is)) (c.in_ok-byte.ensures.none (ap Ok c.in_default.is))
+    (c.in_ok-byte.ensures.unchanged (ap Ok c.in_default.is)) (c.in_ok-byte.ensures.none (ap Ok c.in_default.is))
 
 pub returns-in_default-clause-next : goal.returns-in_default-clause-next
 returns-in_default-clause-next g c =
     let some : c.loop-turn.line.items ≢ [] =
     λ none. let empty : length c.loop-turn.line.items ≡ 0 = ap length none in grind (arith, common_steps, c.if-is_empty.ensures) in
     ends_unfed c.args.most c.loop-turn.line.items _ _ (g.R.Read.remaining c.loop-turn.reader) _ c.loop-turn.invariant.begun some
-    (c.in_ok-byte.ensures.kept (ap Ok c.in_default.is)) (c.in_ok-byte.ensures.none (ap Ok c.in_default.is))
+    (c.in_ok-byte.ensures.unchanged (ap Ok c.in_default.is)) (c.in_ok-byte.ensures.none (ap Ok c.in_default.is))
 
 pub returns-in_default-clause-most : goal.returns-in_default-clause-most
 returns-in_default-clause-most g c =
-    let few : length c.loop-turn.line.items ≤ c.args.most = few_kept c.args.most c.loop-turn.invariant.begun.bytes c.loop-turn.line.items c.loop-turn.invariant.begun.is_kept in
+    let few : length c.loop-turn.line.items ≤ c.args.most = few_in_front c.args.most c.loop-turn.invariant.begun.bytes c.loop-turn.line.items c.loop-turn.invariant.begun.is_front in
     grind (arith, common_steps)
 
 -- a line feed was taken in
@@ -50,7 +50,7 @@ returns-then-byte-eq10-clause-line g c =
 
 pub returns-then-byte-eq10-clause-most : goal.returns-then-byte-eq10-clause-most
 returns-then-byte-eq10-clause-most g c =
-    let few : length c.loop-turn.line.items ≤ c.args.most = few_kept c.args.most c.loop-turn.invariant.begun.bytes c.loop-turn.line.items c.loop-turn.invariant.begun.is_kept in
+    let few : length c.loop-turn.line.items ≤ c.args.most = few_in_front c.args.most c.loop-turn.invariant.begun.bytes c.loop-turn.line.items c.loop-turn.invariant.begun.is_front in
     grind (arith, common_steps)
 
 -- another byte was
