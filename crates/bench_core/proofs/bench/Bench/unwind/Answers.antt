@@ -5,7 +5,7 @@ use Rattle.bench_core.proofs.InTurn.{some_left}
 use Rattle.bench_core.proofs.bench.Bench.unwind.Goals as goal
 
 -- the undos that were made are the first of the future, and some are left
-pub returns-then-undone-len-clause-unwound : goal.returns-then-undone-len-clause-answer
+pub returns-then-undone-len-clause-unwound : goal.returns-then-undone-len-clause-unwound
 returns-then-undone-len-clause-unwound g c =
     let numbers = c.in-Ok.numbers.items in
     let undone = c.undo_each-undone.result in (
