@@ -2,7 +2,8 @@
 ghost use Rattle.std.specs.Prelude.{◌≡◌, ◌↔◌, IsTrue, IfOk};
 ghost use Rattle.bench_core.specs.Acts.{plain_act};
 
-use node_core::{Oom, Step};
+use dots_core::Oom;
+use node_core::Step;
 use std::alloc::Allocator;
 
 /// What one call asks of a bench: a step, or to take a step back.

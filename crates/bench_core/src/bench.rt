@@ -25,9 +25,10 @@ use crate::limits::Limits;
 use crate::names::Names;
 use crate::reply::Reply;
 use crate::unwound::Unwound;
+use dots_core::Oom;
 use journal_core::Journal;
 use journal_core::laws::loan_law;
-use node_core::{Inverse, Meter, Node, Oom, Step, StepFault};
+use node_core::{Inverse, Meter, Node, Step, StepFault};
 use std::alloc::Allocator;
 use std::marker::Model;
 

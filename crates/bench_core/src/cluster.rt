@@ -13,7 +13,8 @@ ghost use Rattle.bench_core.specs.Benches.{IsNumbered, LeadsClusterBack, LeadsNo
 
 use crate::among::{Member, other, step_at};
 use crate::fault::Fault;
-use node_core::{Inverse, Meter, Node, NodeLimits, Oom, Step, StepFault};
+use dots_core::Oom;
+use node_core::{Inverse, Meter, Node, NodeLimits, Step, StepFault};
 use payload_core::Payload;
 use std::alloc::Allocator;
 use std::marker::Model;

@@ -5,7 +5,7 @@ ghost use Rattle.bench_core.specs.Histories.{note, IsAnswered, IsForgotten};
 
 use crate::act::Act;
 use crate::reply::Reply;
-use node_core::Oom;
+use dots_core::Oom;
 use std::alloc::Allocator;
 use std::marker::Model;
 

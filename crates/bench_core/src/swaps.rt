@@ -11,8 +11,8 @@ ghost use Rattle.bench_core.specs.Movables.{may_swap, movable_after, movables_af
 use crate::bench::Bench;
 use crate::movable::Movable;
 use crate::swap_fault::SwapFault;
+use dots_core::Oom;
 use journal_core::{Journal, Kept};
-use node_core::Oom;
 use std::alloc::Allocator;
 
 /// What a swap needs to know of the step `kept` at `place`, counted from 0. `sent` has how many messages each node sent

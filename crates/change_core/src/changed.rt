@@ -8,8 +8,8 @@ ghost use Rattle.change_core.specs.Marked.{changed_marks, mark_of, marks_in};
 
 use crate::change::{Change, Kind};
 use bench_core::Kept;
+use dots_core::Oom;
 use order_core::{Mark, order};
-use payload_core::Oom;
 use std::alloc::Allocator;
 
 type Marks<A> = Vec<Mark, A>;

@@ -14,7 +14,7 @@ use crate::rows::{Rows, copied_rows, rows_at};
 use crate::walk::Walk;
 use bench_core::{Bench, Kept};
 use diff_core::OnlineRow;
-use payload_core::Oom;
+use dots_core::Oom;
 use std::alloc::Allocator;
 use std::marker::Model;
 

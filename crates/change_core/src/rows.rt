@@ -6,7 +6,8 @@ ghost use Rattle.change_core.specs.Questions.{is_of, rows_at, rows_in};
 use crate::question::Question;
 use bench_core::{Bench, Cluster, Node};
 use diff_core::{OnlineRow, online_list};
-use payload_core::{Oom, Word};
+use dots_core::Oom;
+use payload_core::Word;
 use std::alloc::Allocator;
 
 /// Rows of an online list.

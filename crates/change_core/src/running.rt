@@ -7,8 +7,8 @@ use crate::change::Change;
 use crate::changed::changed_marks;
 use crate::steps::{Steps, copied, copied_at};
 use bench_core::{Bench, Kept};
+use dots_core::Oom;
 use order_core::order;
-use payload_core::Oom;
 use std::alloc::Allocator;
 
 /// The run of these steps with a change, in the order that `order` finds; `None` if each order delivers some message

@@ -4,8 +4,8 @@ ghost use Rattle.journal_core.specs.Holdings.{kepts};
 ghost use Rattle.change_core.specs.Marked.{steps_at, with_step};
 
 use bench_core::{Journal, Kept};
+use dots_core::Oom;
 use order_core::Mark;
-use payload_core::Oom;
 use std::alloc::Allocator;
 
 /// Steps of a run, with their nodes and numbers.

@@ -6,7 +6,7 @@ ghost use Rattle.bench_core.specs.Limits.{node_limits};
 ghost use Rattle.change_core.specs.Walks.{places_of, Asks, GoesTo, IsSomeWalk, IsWalk, IsWalkOf, StaysWalk};
 
 use bench_core::{Bench, Cluster, Fault, Inverse, Kept};
-use payload_core::Oom;
+use dots_core::Oom;
 use std::alloc::Allocator;
 use std::marker::Model;
 

@@ -1,4 +1,4 @@
-//! The line that `clap` reads: the subcommands with their options and words.
+//! The command line that `clap` reads: the subcommands with their options and words.
 //!
 //! A function that adds to a line or a subcommand takes it as a `Built`, and passes on an `Err`. So a function that
 //! builds a line or a subcommand in several calls has one way out.
@@ -16,7 +16,7 @@ use crate::help::{
 use clap::{Arg, ArgAction, Command};
 use std::alloc::{AllocError, Global};
 
-/// A line or a subcommand; an `Err` means that memory was refused.
+/// A command line or a subcommand; an `Err` means that memory was refused.
 type Built<'a> = Result<Command<'a>, AllocError>;
 
 /// The option `--as`, which names a form. `forms` is its help.
@@ -70,7 +70,7 @@ fn with_arg<'a>(command: Built<'a>, arg: Arg<'a>) -> Built<'a>
     command?.arg(arg)
 }
 
-/// The line with one more subcommand.
+/// The command line with one more subcommand.
 fn with_command<'a>(line: Built<'a>, subcommand: Built<'a>) -> Built<'a>
     ensures { (app other : App) → IfOk line.entry (HasShape app) → IfOk subcommand.entry (HasShape other)
         → IfOk result (HasShape (with_subcommand app other.top)) }
@@ -211,7 +211,7 @@ fn import<'a>(alloc: Global) -> Built<'a>
     with_end(lenient, EVENTS)
 }
 
-/// The line without its subcommands.
+/// The command line without its subcommands.
 fn bare_line<'a>(alloc: Global) -> Built<'a>
     ensures { IfOk result (HasShape bare_app) }
 {
@@ -225,7 +225,7 @@ fn bare_line<'a>(alloc: Global) -> Built<'a>
     )
 }
 
-/// The line `presence_bench`, with all of its subcommands.
+/// The command line `presence_bench`, with all of its subcommands.
 pub(crate) fn line<'a>(alloc: Global) -> Built<'a>
     ensures { IfOk result (HasShape app) }
 {

@@ -13,8 +13,8 @@ use crate::entry_row::EntryRow;
 use crate::few_rows::{FewRows, few_given, few_taken};
 use crate::online_row::OnlineRow;
 use crate::row_diff::Diff;
-use dots_core::Dot;
-use payload_core::{Entry, Oom};
+use dots_core::{Dot, Oom};
+use payload_core::Entry;
 use replica_core::{Change, Replica};
 use std::alloc::Allocator;
 

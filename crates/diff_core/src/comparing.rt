@@ -5,7 +5,7 @@ ghost use Rattle.diff_core.specs.Online.{AreInOrder};
 
 use crate::online_row::OnlineRow;
 use crate::row_diff::Diff;
-use payload_core::Oom;
+use dots_core::Oom;
 use std::alloc::Allocator;
 
 /// How two online lists, both in order, differ: `left` has the rows that only `before` has, `joined` those that only

@@ -6,7 +6,8 @@ ghost use Rattle.payload_core.specs.EntryLists.{pair_of};
 ghost use Rattle.diff_core.specs.Rows.{row_cmp, row_of};
 ghost use Rattle.diff_core.specs.RowOrder.{row_equiv, row_po, row_ties, row_total};
 
-use payload_core::{Entry, Oom};
+use dots_core::Oom;
+use payload_core::Entry;
 use std::alloc::Allocator;
 use std::cmp::Ordering;
 use std::marker::Model;

@@ -26,5 +26,4 @@ pub use few_rows::{FewRows, few_given, few_taken};
 pub use listing::online_list;
 pub use netting::net;
 pub use online_row::OnlineRow;
-pub use replica_core::Oom;
 pub use row_diff::Diff;

@@ -4,7 +4,7 @@ ghost use Rattle.diff_core.specs.Online.{IsOnlineList};
 ghost use Rattle.diff_core.specs.Sorting.{online_of};
 
 use crate::online_row::OnlineRow;
-use payload_core::Oom;
+use dots_core::Oom;
 use replica_core::Replica;
 use std::alloc::Allocator;
 

@@ -9,7 +9,7 @@ ghost use Rattle.diff_core.specs.Online.{AreInOrder};
 use crate::comparing::{begins_with, not_below};
 use crate::online_row::OnlineRow;
 use crate::row_diff::Diff;
-use payload_core::Oom;
+use dots_core::Oom;
 use std::alloc::Allocator;
 
 /// Copies of the rows, sorted. A row may stand among them more than once.

@@ -161,8 +161,8 @@ impl<A: Allocator> EntryList<A> {
         }
     }
 
-    /// Moves the entries into the memory of `spare`. `spare` comes back, and the list stays, if other lists may share
-    /// the list's memory; the words of all entries are then stored inline.
+    /// Moves the entries into the memory of `spare`. An `Err` gives `spare` back and leaves the list as it is: other
+    /// lists may share its memory, and then its words are short ones, stored inline.
     fn move_own(&mut self, spare: Spare<A>) -> Result<OwnList<A>, Spare<A>>
         requires { length self.old ≤ 64 }
         ensures moved { IfOk result (λ list. list.value.items ≡ self.old) }

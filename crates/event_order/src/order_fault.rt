@@ -2,7 +2,7 @@
 ghost use Rattle.std.specs.Prelude.{◌≡◌};
 ghost use Rattle.event_order.specs.declared.order_fault.OrderFault.TheVariants.{OutOfMemory};
 
-use crate::Oom;
+use dots_core::Oom;
 use thiserror::Error;
 
 /// Why events have no order. Places are counted from 0.

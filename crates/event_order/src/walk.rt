@@ -4,8 +4,8 @@ ghost use Rattle.std.specs.Prelude.{ℕ, List, slice_index};
 ghost use Rattle.event_order.specs.Ordering.{HasNodes, HasMessages, CanCome, IsBegun, IsNearest, node_at};
 ghost use Rattle.event_order.specs.Walks.{IsFirstOf, IsLeastReady, IsLeast, IsWalk, IsStopped, AreHeads, is_sent, left_of};
 
-use crate::Oom;
 use crate::logged::Logged;
+use dots_core::Oom;
 use std::alloc::Allocator;
 
 /// The place of the node's first event at or after `from`; the number of all events if there is none.

@@ -1,7 +1,8 @@
 //! `AskFault`: why nothing is explained.
 ghost use Rattle.std.specs.Prelude.{◌≡◌};
 
-use payload_core::{Oom, WordFault};
+use dots_core::Oom;
+use payload_core::WordFault;
 use thiserror::Error;
 
 /// Why nothing is explained.

@@ -12,8 +12,8 @@ use crate::standing::{Standing, standing_at};
 use crate::tracing::{Traced, traced_of};
 use crate::track::{Track, stand_at};
 use bench_core::{Bench, Kept, Names};
-use dots_core::Dot;
-use payload_core::{Oom, Word};
+use dots_core::{Dot, Oom};
+use payload_core::Word;
 use report_core::{name_at, put_act};
 use std::alloc::Allocator;
 

@@ -10,8 +10,7 @@ use crate::hop::{Hop, Kind};
 use crate::standing::{Standing, standing_at};
 use crate::track::{Track, stand_at};
 use bench_core::{Bench, Journal, Step};
-use dots_core::Dot;
-use payload_core::Oom;
+use dots_core::{Dot, Oom};
 use std::alloc::Allocator;
 use std::marker::Model;
 

@@ -5,8 +5,8 @@ ghost use Rattle.explain_core.specs.Makings.{made_by, making_of, makings_from, m
 
 use crate::tracking::{ask, opened};
 use bench_core::{Bench, Journal, Kept, Step};
-use dots_core::Dot;
-use payload_core::{Oom, Word};
+use dots_core::{Dot, Oom};
+use payload_core::Word;
 use std::alloc::Allocator;
 
 /// The number of a step that made a presence, and the presence's dot.

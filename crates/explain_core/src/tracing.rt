@@ -8,7 +8,7 @@ use crate::making::Making;
 use crate::track::{Track, reaches};
 use crate::tracking::{ask, opened};
 use bench_core::{Bench, Kept};
-use payload_core::Oom;
+use dots_core::Oom;
 use std::alloc::Allocator;
 use std::marker::Model;
 

@@ -7,8 +7,7 @@ ghost use Rattle.explain_core.specs.Standings.{standing_at};
 use crate::hop::{Hop, Kind, Stand};
 use crate::standing::{Standing, last_message, standing_at, standing_sent};
 use bench_core::{Bench, Kept, Step};
-use dots_core::Dot;
-use payload_core::Oom;
+use dots_core::{Dot, Oom};
 use std::alloc::Allocator;
 use std::marker::Model;
 

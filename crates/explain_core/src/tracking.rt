@@ -3,7 +3,7 @@ ghost use Rattle.std.specs.Prelude.{◌≡◌, IfOk, OnOk};
 ghost use Rattle.explain_core.specs.Tracks.{after_step, opened};
 
 use bench_core::{Act, Bench, Fault, Kept, Reply};
-use payload_core::Oom;
+use dots_core::Oom;
 use std::alloc::Allocator;
 
 /// A new bench with the names and limits of `bench`, on which nothing was asked yet.

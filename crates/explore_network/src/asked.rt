@@ -20,8 +20,7 @@ use crate::playing::{play, played};
 use crate::question::Question;
 use crate::steps::places;
 use bench_core::{Cluster, Kept, Node, NodeLimits, Step};
-use dots_core::Dot;
-use node_core::Oom;
+use dots_core::{Dot, Oom};
 use payload_core::Word;
 use std::alloc::Allocator;
 

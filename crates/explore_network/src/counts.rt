@@ -5,8 +5,8 @@ ghost use Rattle.journal_core.specs.Journals.{Kept as PlainKept};
 ghost use Rattle.explore_network.specs.Turns.{count_of, counts_of};
 
 use bench_core::Kept;
+use dots_core::Oom;
 use network_rules::{Turn, count_at};
-use node_core::Oom;
 use std::alloc::Allocator;
 
 /// `count`, or one more if the step `kept` is of `turn`. `count` is how many steps of the turn came before `kept`.

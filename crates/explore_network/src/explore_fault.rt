@@ -1,7 +1,7 @@
 //! `ExploreFault`: why an exploration gives no outcomes.
 ghost use Rattle.std.specs.Prelude.{◌≡◌, ◌≢◌, ℕ};
 
-use node_core::Oom;
+use dots_core::Oom;
 
 /// Why an exploration gives no outcomes.
 #[derive(Clone, Copy, Debug, PartialEq, Eq)]

@@ -30,8 +30,8 @@ use crate::turns::{ranks_of, turns_of};
 use crate::walk::{Tour, Walk, outcome_of, visit};
 use bench_core::{Bench, Cluster, Kept, NodeLimits};
 use change_core::copied;
+use dots_core::Oom;
 use network_rules::{Cone, Rank, RecordedRun, Turn};
-use node_core::Oom;
 use progress_core::{Walked, Watch};
 use std::alloc::Allocator;
 

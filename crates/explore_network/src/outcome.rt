@@ -8,7 +8,7 @@ ghost use Rattle.explore_network.specs.Walks.{told_by, Outcome as PlainOutcome};
 use crate::question::Question;
 use crate::shown::show_same;
 use bench_core::Cluster;
-use node_core::Oom;
+use dots_core::Oom;
 use std::alloc::Allocator;
 use std::marker::Model;
 

@@ -9,7 +9,7 @@ ghost use Rattle.bench_core.specs.Runs.{runs, then_runs};
 ghost use Rattle.explore_network.specs.Walks.{steps_at, with_step};
 
 use bench_core::{Cluster, Fault, Inverse, Kept, NodeLimits};
-use node_core::Oom;
+use dots_core::Oom;
 use std::alloc::Allocator;
 
 /// Plays the steps at the places of `path` on `count` empty nodes, and gives the cluster at the end. A step that is

@@ -8,9 +8,8 @@ ghost use Rattle.network_rules.specs.Tables.{AreAllAsked, IsClosed};
 
 use crate::turns::sent;
 use bench_core::Kept;
-use dots_core::{Dot, NameSet};
+use dots_core::{Dot, NameSet, Oom};
 use network_rules::{Cone, Rank, RecordedRun, Rows, all_names, cone_of, delivery, recorded, said};
-use node_core::Oom;
 use std::alloc::Allocator;
 
 /// The names that are in one of the sets, or in both.

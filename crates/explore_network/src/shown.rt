@@ -9,7 +9,7 @@ use crate::question::Question;
 use bench_core::{Cluster, Node};
 use change_core::rows_in;
 use diff_core::OnlineRow;
-use node_core::Oom;
+use dots_core::Oom;
 use payload_core::Word;
 use std::alloc::Allocator;
 

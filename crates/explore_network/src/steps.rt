@@ -6,7 +6,7 @@ ghost use Rattle.node_core.specs.Operations.{plain};
 ghost use Rattle.network_core.specs.Room.{made, makes};
 
 use bench_core::{Kept, Step};
-use node_core::Oom;
+use dots_core::Oom;
 use std::alloc::Allocator;
 
 /// Whether the step makes an entry: a join or an update does.

@@ -2,9 +2,9 @@
 ghost use Rattle.std.specs.Prelude.{◌≡◌, ◌⊎◌, ◌++◌, ◌∷◌, [], IsTrue, OnOk, length};
 ghost use Rattle.explore_network.specs.Keys.{IsAmong};
 
+use dots_core::Oom;
 use indexmap::IndexSet;
 use network_rules::Key;
-use node_core::Oom;
 use std::alloc::Allocator;
 use std::hash::{BuildHasherDefault, FoldHasher};
 use std::marker::Model;

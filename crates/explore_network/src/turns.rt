@@ -5,8 +5,8 @@ ghost use Rattle.journal_core.specs.Journals.{sent_by};
 ghost use Rattle.explore_network.specs.Turns.{count_of, noted, own_turns, place_of, rank_of, ranks_of, turn_of, turns_of};
 
 use bench_core::Kept;
+use dots_core::Oom;
 use network_rules::{Rank, Turn, delivery};
-use node_core::Oom;
 use std::alloc::Allocator;
 
 /// How many of the steps belong to the turn.

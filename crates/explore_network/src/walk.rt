@@ -21,8 +21,8 @@ use crate::playing::{ask, lead_back, played};
 use crate::question::Question;
 use crate::table::Table;
 use bench_core::{Cluster, Kept};
+use dots_core::Oom;
 use network_rules::{Key, RecordedRun, State, extend, is_end, is_next, key_of, run_of};
-use node_core::Oom;
 use progress_core::{Walked, Watch};
 use std::alloc::Allocator;
 

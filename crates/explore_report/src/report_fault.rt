@@ -2,8 +2,9 @@
 ghost use Rattle.std.specs.Prelude.{◌≡◌};
 ghost use Rattle.explore_report.specs.Faults.{fault_of_explore};
 
+use dots_core::Oom;
 use explore_network::ExploreFault;
-use payload_core::{Oom, WordFault};
+use payload_core::WordFault;
 use thiserror::Error;
 
 /// Why a question gets no text, or an outcome no script.

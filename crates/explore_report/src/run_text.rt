@@ -6,7 +6,7 @@ ghost use Rattle.transcript_core.specs.Runs.{run_text, step_lines};
 ghost use Rattle.explore_report.specs.Texts.{line_of};
 
 use bench_core::{Bench, Journal, Names};
-use payload_core::Oom;
+use dots_core::Oom;
 use std::alloc::Allocator;
 use transcript_core::{put_nodes_line, put_step_line};
 

@@ -7,8 +7,9 @@ ghost use Rattle.explore_report.specs.Texts.{node_text, nodes_text, shown_text};
 
 use bench_core::{Cluster, Names, Node};
 use change_core::rows_in;
+use dots_core::Oom;
 use explore_network::Question;
-use payload_core::{Oom, Word};
+use payload_core::Word;
 use report_core::{list_of, put_dots, put_online, put_rows};
 use std::alloc::Allocator;
 

@@ -6,8 +6,9 @@ ghost use Rattle.explore_report.specs.Texts.{asked_words, explore_text, head_lin
 use crate::run_text::put_run;
 use crate::shown_text::put_shown;
 use bench_core::{Bench, Names};
+use dots_core::Oom;
 use explore_network::{Explored, Outcome, Question};
-use payload_core::{Oom, Word};
+use payload_core::Word;
 use report_core::name_at;
 use std::alloc::Allocator;
 

@@ -7,7 +7,7 @@ ghost use Rattle.grammar_core.specs.Grammar.{unreserved, node_names, opening, wi
 use crate::fault::FaultKind;
 use crate::keyword::keyword_of;
 use bench_core::{Names, TextSet, is_name};
-use payload_core::Oom;
+use dots_core::Oom;
 use std::alloc::Allocator;
 use std::marker::Model;
 use std::mem;

@@ -3,7 +3,7 @@ ghost use Rattle.std.specs.Prelude.{◌≡◌, ◌≢◌};
 ghost use Rattle.grammar_core.specs.declared.fault.FaultKind.TheVariants.{OutOfMemory};
 
 use bench_core::NamesFault;
-use payload_core::Oom;
+use dots_core::Oom;
 use std::alloc::AllocFailed;
 use thiserror::Error;
 

@@ -8,8 +8,8 @@ ghost use Rattle.grammar_core.specs.Grammar.{text_words};
 ghost use Rattle.grammar_core.specs.Words.{begins_word, is_numeral, lines_behind, lines_of, number_of, words_of};
 
 use crate::fault::FaultKind;
+use dots_core::Oom;
 use memchr::memchr;
-use payload_core::Oom;
 use smallvec::SmallVec;
 use std::alloc::Allocator;
 use std::str;

@@ -4,12 +4,12 @@ ghost use Rattle.serde_json.specs.View.{view};
 ghost use Rattle.hint_core.specs.Hints.{plain_hint, line_of};
 ghost use Rattle.hint_core.specs.EventHints.{unknown_event, value_hint, json_line_hint, json_hint_at, kind_hint, IsEventHint, IsEventHintAt, IsImportHint};
 
-use crate::Oom;
 use crate::event_forms::event_form;
 use crate::first_bytes::{begins_object, is_marked};
 use crate::hint::{Hint, line_of};
 use crate::hints::line_at;
 use crate::line_words::text_of;
+use dots_core::Oom;
 use import_core::{FaultKind, ImportFault};
 use log_core::{LineFault, text_in, value_of_line};
 use serde_json::Value;

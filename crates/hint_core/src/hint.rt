@@ -4,7 +4,7 @@ ghost use Rattle.std.specs.Prelude.{◌≡◌, ◌++◌, ◌<◌, OnOk, IfOk, le
 ghost use Rattle.hint_core.specs.Hints.{longest_shown, shown, byte_body, letter_tail, body, line_of, plain_hint};
 ghost use Rattle.hint_core.specs.Choices.{about};
 
-use crate::Oom;
+use dots_core::Oom;
 use std::alloc::Allocator;
 
 /// The most bytes that are shown of a word.

@@ -5,13 +5,13 @@ ghost use Rattle.hint_core.specs.Hints.{plain_hint, line_of};
 ghost use Rattle.hint_core.specs.Choices.{hint_of_line, hint_of_whole, hint_at, hint_of, hint_line, is_out_of_memory};
 ghost use Rattle.hint_core.specs.Sessions.{session_hint};
 
-use crate::Oom;
 use crate::first_bytes::{begins_object, is_blank, is_marked};
 use crate::hint::{Hint, line_of};
 use crate::line_words::few_words;
 use crate::names_hint::{bad_name, twice};
 use crate::text_hint::{not_text, too_long};
 use crate::words_hint::{bad_number, no_nodes, not_allowed, unknown_word, wrong_count};
+use dots_core::Oom;
 use grammar_core::{FaultKind, ScriptFault};
 use std::alloc::Allocator;
 

@@ -26,6 +26,3 @@ mod words_hint;
 pub use event_hints::import_hint;
 pub use first_bytes::begins_object;
 pub use hints::{script_hint, session_hint};
-
-/// A request for memory was refused. This is std's error, so `?` on a call of std passes it on.
-pub use std::alloc::AllocError as Oom;

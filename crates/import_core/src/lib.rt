@@ -27,6 +27,3 @@ pub use importing::{Import, imported, left_out_of, lines_of};
 pub use notes::Noted;
 pub use tables::Tables;
 pub use texts::text_of;
-
-/// A request for memory was refused. This is std's error, so `?` on a call of std passes it on.
-pub use dots_core::Oom;

@@ -10,10 +10,10 @@ ghost use Rattle.import_page.specs.Entries.{AreEntries, IsAskedTold, IsEntry, he
 use crate::rows::put_listed;
 use crate::times::time_on;
 use bench_core::{Act, Bench, Step};
+use dots_core::Oom;
 use import_core::{Import, Noted};
 use import_report::{asked, play};
 use page_data::{put_comma, put_number_key, put_text_key};
-use payload_core::Oom;
 use std::alloc::{Allocator, Global};
 
 /// The line with this number, counted from 1; empty if there are fewer lines.

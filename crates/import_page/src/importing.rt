@@ -13,10 +13,10 @@ ghost use Rattle.import_page.specs.Keys.{IsShownOf, keys_text, start_of};
 
 use crate::entries::{Playback, put_entries};
 use bench_core::{Bench, Limits};
+use dots_core::Oom;
 use import_core::{Import, ImportFault, Tables, imported, left_out_of, lines_of};
 use import_report::{shown_names, zeros};
 use page_data::put_texts;
-use payload_core::Oom;
 use std::alloc::{Allocator, Global};
 
 /// A bench, and what the events that were played on it tell besides its calls.

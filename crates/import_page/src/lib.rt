@@ -15,6 +15,3 @@ mod rows;
 mod times;
 
 pub use importing::{Shown, import_shown};
-
-/// A request for memory was refused. This is std's error, so `?` on a call of std passes it on.
-pub use payload_core::Oom;

@@ -6,10 +6,10 @@ ghost use Rattle.import_page.specs.Entries.{IsListTold, list_text, row_head, row
 
 use bench_core::Bench;
 use diff_core::OnlineRow;
+use dots_core::Oom;
 use import_core::Noted;
 use listed_core::compared;
 use page_data::{put_comma, put_number_key, put_word};
-use payload_core::Oom;
 use report_core::rows_at;
 use std::alloc::Allocator;
 

@@ -4,9 +4,9 @@ ghost use Rattle.serde_json.specs.Find.{as_number, as_str};
 ghost use Rattle.serde_json.specs.View.{view};
 ghost use Rattle.import_page.specs.Times.{IsTimeBy, IsTimeOf, IsTimeOn};
 
+use dots_core::Oom;
 use import_core::text_of;
 use log_core::{LineFault, value_of_line};
-use payload_core::Oom;
 use serde_json::Value;
 use std::alloc::Global;
 

@@ -3,7 +3,7 @@ ghost use Rattle.std.specs.Prelude.{◌≡◌, ◌++◌, ◌∷◌, [], ◌<◌,
 ghost use Rattle.std.specs.Char.{digit_char};
 ghost use Rattle.import_report.specs.Ascii.{ascii_char, ascii_text, escaped_char, escaped_unit, string_char, string_text};
 
-use payload_core::Oom;
+use dots_core::Oom;
 use std::alloc::Allocator;
 
 /// Appends `c`, which must be ASCII.

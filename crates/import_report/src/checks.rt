@@ -15,9 +15,9 @@ use crate::events::play;
 use crate::numbers::asked;
 use bench_core::{Act, Bench, Names, Reply, Step};
 use diff_core::OnlineRow;
+use dots_core::Oom;
 use import_core::{Import, Noted};
 use listed_core::compared;
-use payload_core::Oom;
 use report_core::{name_at, put_lines, rows_at};
 use std::alloc::Allocator;
 

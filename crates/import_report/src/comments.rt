@@ -9,8 +9,8 @@ ghost use Rattle.import_report.specs.Events.{ended};
 use crate::ascii::{ascii_text, string_text};
 use crate::names::text_at;
 use bench_core::{Names, TextSet};
+use dots_core::Oom;
 use import_core::Tables;
-use payload_core::Oom;
 use report_core::name_at;
 use std::alloc::Allocator;
 

@@ -10,8 +10,8 @@ ghost use Rattle.import_report.specs.Events.{after_step, after_event, event_line
 
 use crate::numbers::{asked, note_sent};
 use bench_core::{Act, Bench, Names, Reply, Step};
+use dots_core::Oom;
 use import_core::Noted;
-use payload_core::Oom;
 use report_core::{name_at, put_act, reply_of};
 use std::alloc::Allocator;
 

@@ -14,9 +14,9 @@ use crate::checks::checked;
 use crate::names::shown_names;
 use crate::script::{Scripted, script_of, zeros};
 use bench_core::{Bench, Limits};
+use dots_core::Oom;
 use grammar_core::LONGEST_SCRIPT;
 use import_core::{FaultKind, Import, ImportFault, imported, left_out_of};
-use payload_core::Oom;
 use std::alloc::{Allocator, Global};
 
 /// The script of an import's events, and the bench on which they were played. `told` is as for `import_script`.

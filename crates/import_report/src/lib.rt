@@ -24,6 +24,3 @@ pub use importing::{Checked, import_bench, import_check, import_script};
 pub use names::shown_names;
 pub use numbers::asked;
 pub use script::{Scripted, zeros};
-
-/// A request for memory was refused. This is std's error, so `?` on a call of std passes it on.
-pub use payload_core::Oom;

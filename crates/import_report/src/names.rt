@@ -6,8 +6,8 @@ ghost use Rattle.report_core.specs.Rows.{name_at};
 ghost use Rattle.import_report.specs.Names.{AreNames, numbered_names, shown_names};
 
 use bench_core::{Names, NamesFault, TextSet};
+use dots_core::Oom;
 use grammar_core::{unreserved, words_of};
-use payload_core::Oom;
 use std::alloc::Allocator;
 
 /// The nodes' names, by number, in a script that can't have the own names of all of them; spaces divide the names.

@@ -6,7 +6,7 @@ ghost use Rattle.report_core.specs.Shown.{node_of};
 ghost use Rattle.import_report.specs.Events.{number_at, asked, outbox_length, numbers_after};
 
 use bench_core::{Bench, Reply, Step};
-use payload_core::Oom;
+use dots_core::Oom;
 use report_core::node;
 use std::alloc::Allocator;
 

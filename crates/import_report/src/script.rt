@@ -12,8 +12,8 @@ ghost use Rattle.import_report.specs.Scripts.{in_order, nodes_line, opening, spa
 use crate::comments::put_comments;
 use crate::events::put_lines;
 use bench_core::{Bench, Limits, Names};
+use dots_core::Oom;
 use import_core::{Import, Tables};
-use payload_core::Oom;
 use report_core::name_at;
 use std::alloc::Allocator;
 

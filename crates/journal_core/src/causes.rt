@@ -5,7 +5,7 @@ ghost use Rattle.journal_core.specs.Numbers.{Rises, first_above, last, all_but};
 ghost use Rattle.journal_core.specs.Causes.{first_delivered, delivered, deliveries_at, SameBut, AddsMessage, IsSameIndex};
 
 use crate::numbers::{first_above, place};
-use node_core::Oom;
+use dots_core::Oom;
 use smallvec::SmallVec;
 use std::alloc::Allocator;
 use std::marker::Model;

@@ -13,7 +13,7 @@ use crate::causes::Causes;
 use crate::held::Held;
 use crate::room::Room;
 use crate::slots::Slots;
-use node_core::Oom;
+use dots_core::Oom;
 use std::alloc::Allocator;
 
 /// Makes room for a step in the index of its node.

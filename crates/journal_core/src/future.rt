@@ -13,7 +13,7 @@ use crate::causes::Causes;
 use crate::held::Held;
 use crate::numbers::least;
 use crate::slots::Slots;
-use node_core::Oom;
+use dots_core::Oom;
 use std::alloc::Allocator;
 
 /// Notes `held` and the later steps of its node as reached: lowers the node's bound in `bounds`, unless that bound is
@@ -158,7 +158,8 @@ fn gather_back<'a, B: Allocator>(
 }
 
 /// The numbers of step `number` and of all that follows from it, greatest first; none if the step doesn't remain. For
-/// each of these steps it makes a binary search in each node's index, and one for each delivery of the step's message.
+/// each of these steps it makes a binary search in the index of each node that it has reached so far, and one for each
+/// delivery of the step's message.
 pub(crate) fn future<'a, B: Allocator>(
     slots: &Slots<'a, B>,
     causes: &[Causes<'a, B>],

@@ -18,7 +18,8 @@ use crate::numbers::least;
 use crate::room::Room;
 use crate::slots::Slots;
 use crate::steps::Steps;
-use node_core::{Inverse, Oom, Step};
+use dots_core::Oom;
+use node_core::{Inverse, Step};
 use std::alloc::Allocator;
 use std::marker::Model;
 

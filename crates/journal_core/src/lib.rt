@@ -24,5 +24,4 @@ mod steps;
 
 pub use journal::Journal;
 pub use kept::Kept;
-pub use node_core::Oom;
 pub use steps::Steps;

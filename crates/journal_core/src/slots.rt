@@ -9,7 +9,8 @@ ghost use Rattle.journal_core.specs.Slots.{steps_in, IsAboveAll, AreAligned, end
 use crate::held::Held;
 use crate::numbers::place;
 use crate::steps::Steps;
-use node_core::{Inverse, Oom};
+use dots_core::Oom;
+use node_core::Inverse;
 use std::alloc::Allocator;
 use std::marker::Model;
 

@@ -13,8 +13,7 @@ use crate::recorded_run::RecordedRun;
 use crate::state::State;
 use crate::turn::Rank;
 use bench_core::{Cluster, Kept, Node, Step};
-use dots_core::{Dot, DotSet, NameSet};
-use node_core::Oom;
+use dots_core::{Dot, DotSet, NameSet, Oom};
 use payload_core::{EntrySet, Payload};
 use std::alloc::Allocator;
 

@@ -1,7 +1,7 @@
 //! A path: the places of a run's steps among the recorded steps.
 ghost use Rattle.std.specs.Prelude.{◌≡◌, ◌++◌, ◌∷◌, [], IfOk, OnOk};
 
-use node_core::Oom;
+use dots_core::Oom;
 use std::alloc::Allocator;
 
 /// Appends the place of the run's next step to the path.

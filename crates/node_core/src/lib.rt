@@ -17,6 +17,6 @@ mod step_fault;
 pub use inverse::Inverse;
 pub use meter::Meter;
 pub use node::Node;
-pub use replica_core::{NodeLimits, Oom};
+pub use replica_core::NodeLimits;
 pub use step::Step;
 pub use step_fault::StepFault;

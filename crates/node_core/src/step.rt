@@ -3,8 +3,8 @@ ghost use Rattle.std.specs.Prelude.{◌≡◌, ◌↔◌, IsTrue, IfOk, nat_lt};
 ghost use Rattle.std.specs.List.{list_all};
 ghost use Rattle.node_core.specs.Operations.{Join, Leave, Update, Deliver, Answer, delivers, named_in, plain, sends};
 
-use dots_core::NameSet;
-use payload_core::{Oom, Word};
+use dots_core::{NameSet, Oom};
+use payload_core::Word;
 use std::alloc::Allocator;
 
 /// What one node does. `pid` is the number of a process at that node.

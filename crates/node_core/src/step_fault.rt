@@ -1,5 +1,6 @@
 //! `StepFault`: why a node refuses a step.
-use payload_core::{Oom, OutboxFault};
+use dots_core::Oom;
+use payload_core::OutboxFault;
 use replica_core::ReplicaFault;
 use thiserror::Error;
 

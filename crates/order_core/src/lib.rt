@@ -11,5 +11,4 @@ mod mark;
 mod ordering;
 
 pub use mark::Mark;
-pub use node_core::Oom;
 pub use ordering::order;

@@ -9,7 +9,7 @@ ghost use Rattle.order_core.specs.Marks.{order_of_marks};
 ghost use Rattle.order_core.specs.Stands.{first_of, is_ready, left, next_at, was_sent, AreStands, IsFirstReady};
 
 use crate::mark::Mark;
-use node_core::Oom;
+use dots_core::Oom;
 use std::alloc::Allocator;
 
 /// Where a node stands: the place of its next step, and how many messages it has sent. If it has no step left, the

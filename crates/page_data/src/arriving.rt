@@ -14,8 +14,8 @@ ghost use Rattle.page_data.specs.Carried.{hop, hops_at, hops_if, hops_of, hop_by
 
 use crate::clocks::{clocks_of, last_of, more_of, standing_at, standing_told};
 use bench_core::Node;
-use dots_core::Dot;
-use payload_core::{Oom, Payload};
+use dots_core::{Dot, Oom};
+use payload_core::Payload;
 use replica_core::Replica;
 use std::alloc::Allocator;
 

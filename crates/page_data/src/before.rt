@@ -10,7 +10,7 @@ use crate::seen::{Seen, seen_in};
 use crate::steps::put_reads;
 use bench_core::{Act, Bench, Node};
 use diff_core::Diff;
-use payload_core::Oom;
+use dots_core::Oom;
 use report_core::{asked_undo, node, node_of_step, undo_diff};
 use std::alloc::Allocator;
 

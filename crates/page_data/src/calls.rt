@@ -18,7 +18,7 @@ use crate::seen::{Seen, changes_in};
 use crate::steps::put_gives;
 use bench_core::{Act, Bench, Event, Fault, Names, Node, Reply, TextSet};
 use diff_core::{Diff, OnlineRow};
-use payload_core::Oom;
+use dots_core::Oom;
 use report_core::{node, reply_of, step_diff};
 use std::alloc::Allocator;
 use transcript_core::{CastRef, put_call};

@@ -6,8 +6,8 @@ ghost use Rattle.store_core.specs.Stores.{standing, store_of};
 ghost use Rattle.report_core.specs.Dots.{clock_of};
 ghost use Rattle.page_data.specs.Carried.{clocks_of, more_of};
 
-use dots_core::{Dot, DotSet};
-use payload_core::{EntrySet, Oom, Payload};
+use dots_core::{Dot, DotSet, Oom};
+use payload_core::{EntrySet, Payload};
 use replica_core::Replica;
 use report_core::{clock_of, cloud_of};
 use std::alloc::Allocator;

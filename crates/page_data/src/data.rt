@@ -6,7 +6,7 @@ ghost use Rattle.page_data.specs.PageData.{calls_text, consoles_text, data_with,
 use crate::calls::put_event;
 use crate::json::{put_comma, put_string};
 use bench_core::{Bench, History, Names, TextSet};
-use payload_core::Oom;
+use dots_core::Oom;
 use report_core::name_at;
 use std::alloc::Allocator;
 use transcript_core::console_at;

@@ -3,7 +3,7 @@ ghost use Rattle.std.specs.Prelude.{◌≡◌, ◌++◌, ◌∷◌, ◌<◌, [],
 ghost use Rattle.std.specs.Char.{digit_char};
 ghost use Rattle.page_data.specs.Json.{comma_at, escaped_byte, more_numbers, number_key, number_key_if, numbers_key, numbers_text, string_char, string_chars, string_text, text_key};
 
-use payload_core::Oom;
+use dots_core::Oom;
 use std::alloc::Allocator;
 
 /// Appends `value`, which must be below 16, as a hexadecimal digit in lower case.

@@ -6,7 +6,7 @@ ghost use Rattle.page_data.specs.PageData.{is_own, own_keys, row_dots, row_hops,
 use crate::json::put_numbers_key;
 use bench_core::Step;
 use diff_core::OnlineRow;
-use payload_core::Oom;
+use dots_core::Oom;
 use std::alloc::Allocator;
 
 /// `NAME,CLOCK` of each row, as a list of numbers.

@@ -5,7 +5,7 @@ ghost use Rattle.dots_core.specs.Names.{most_names};
 ghost use Rattle.page_data.specs.Seen.{all_seen, change_of, changes_in, changes_of, is_same, seen_at, seen_in, seen_of, status_number};
 
 use bench_core::Node;
-use payload_core::Oom;
+use dots_core::Oom;
 use replica_core::{Replica, Status};
 use report_core::{clock_of, cloud_of};
 use std::alloc::Allocator;

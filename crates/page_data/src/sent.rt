@@ -6,8 +6,8 @@ ghost use Rattle.report_core.specs.Dots.{clock_of};
 ghost use Rattle.page_data.specs.Carried.{clock_if, clocks_standing, more_of, name_if_any, names_in, stands_so};
 
 use crate::clocks::{clocks_of, last_of, more_of, standing_told};
-use dots_core::Dot;
-use payload_core::{Oom, Payload};
+use dots_core::{Dot, Oom};
+use payload_core::Payload;
 use std::alloc::Allocator;
 
 /// Whether the dot of `name` with this clock stands as `wanted` in the message.

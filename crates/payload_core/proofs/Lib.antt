@@ -1,4 +1,4 @@
-pub mod Marked
+pub mod Hashed
 pub mod SameMessages
 pub mod SeenEntries
 pub mod TrackedDots

@@ -4,7 +4,7 @@ pub use Rattle.entry_core.specs.Presences
 pub use Rattle.entry_core.specs.Words
 pub use Rattle.block_core.specs.Deliveries
 pub use Rattle.block_core.specs.EntrySets
-pub mod Marks
+pub mod Hashes
 pub mod Messages
 pub mod Outboxes
 pub mod TrackIndices

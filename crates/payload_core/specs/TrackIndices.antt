@@ -1,16 +1,16 @@
--- An index of the entries of one name by their marks: it says where an entry with a mark stands, and where there is none.
+-- An index of the entries of one name by their hashes: it says where an entry with a hash stands, and where there is none.
 use Rattle.std.specs.Prelude.{◌≡◌, ℕ, Bool, false, ◌==◌, ◌&&◌, if◌then◌else◌, List, Option, Some, None, refl}
 use Rattle.std.specs.Coded.{Coded, code_by, coded×, coded_list, coded_option, coded_ℕ}
 use Rattle.std.specs.FinMap as fin
 use Rattle.std.specs.Map.{lookup}
 use Rattle.dots_core.specs.declared.dot.Dot.{Dot}
 use Rattle.dots_core.specs.Dots.{dot_code}
-use Rattle.payload_core.specs.Marks.{mark_of}
+use Rattle.payload_core.specs.Hashes.{hash_of}
 use Rattle.entry_core.specs.Presences.{Entries, Presence}
 use Rattle.payload_core.specs.declared.track_index.Holder.{Holder}
 use Rattle.payload_core.specs.declared.track_index.Holder.TheVariants.{One, Several}
 
--- the name whose entries it knows, if there is one; what is known of each of their marks; and for how many more there is room
+-- the name whose entries it knows, if there is one; what is known of each of their hashes; and for how many more there is room
 pub record TrackIndex : Type 0 where
   pub name : Option ℕ
   pub holders : List (ℕ × Holder)
@@ -38,33 +38,33 @@ track_index_code =
     code_by (Option ℕ × (List (ℕ × Holder) × ℕ)) (coded× (coded_option coded_ℕ) (coded× (coded_list (coded× coded_ℕ holder_code)) coded_ℕ))
     (λ x. (x.name, (x.holders, x.room))) (λ t. record { name = t.0; holders = t.1.0; room = t.1.1 }) (λ _. refl)
 
--- what these holders know of a mark
+-- what these holders know of a hash
 abbrev pub held_as : List (ℕ × Holder) → ℕ → Option Holder
-held_as holders mark = lookup (λ m. mark == m) holders
+held_as holders hash = lookup (λ m. hash == m) holders
 
 -- whether the name is this one
 abbrev pub is_of : Option ℕ → ℕ → Bool
 is_of None name = false
 is_of (Some own) name = own == name
 
--- what is known of a mark among the entries of a name; of another name nothing is known, so they may be anywhere
+-- what is known of a hash among the entries of a name; of another name nothing is known, so they may be anywhere
 abbrev pub holder_of : TrackIndex → ℕ → ℕ → Option Holder
-holder_of index name mark = if is_of index.name name then held_as index.holders mark else Some Several
+holder_of index name hash = if is_of index.name name then held_as index.holders hash else Some Several
 
 -- what the box says, if there is one
 abbrev pub in_box : {M X : Type 0} → X → (M → X) → Option M → X
 in_box none told None = none
 in_box none told (Some m) = told m
 
--- an entry with this dot may have the mark
+-- an entry with this dot may have the hash
 abbrev pub Holds : Option Holder → Dot → Type 0
 Holds None d = ⊥
 Holds (Some (One held)) d = held ≡ d
 Holds (Some Several) d = Unit {0}
 
--- the index holds each entry under its mark
+-- the index holds each entry under its hash
 pub record Covers (index : TrackIndex) (es : Entries) : Type 0 where
-  pub held : (d : Dot) (p : Presence) → fin.get es d ≡ Some p → Holds (holder_of index d.name (mark_of p.pid p.topic p.key)) d
+  pub held : (d : Dot) (p : Presence) → fin.get es d ≡ Some p → Holds (holder_of index d.name (hash_of p.pid p.topic p.key)) d
 
 -- the dot, if its presence is of the name and passes the test
 abbrev pub dot_if : Dot → ℕ → (Presence → Bool) → Option Presence → Option Dot

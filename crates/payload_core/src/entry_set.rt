@@ -9,7 +9,7 @@ ghost use Rattle.entry_core.specs.EntryLists.{IsPlaceFrom, pairs};
 ghost use Rattle.entry_core.specs.Presences.{dots_of, entries_of_names, entry_of, is_tracked_as, presence_of};
 ghost use Rattle.payload_core.specs.TrackIndices.{tracked_at};
 
-use crate::mark::mark;
+use crate::hash::hash;
 use crate::track_index::{Holder, TrackIndex};
 use block_core::{EntriesByDot, Walk};
 use dots_core::{Dot, DotSet, NameSet, Oom};
@@ -22,7 +22,7 @@ use std::marker::Model;
 #[derive(Drop)]
 pub struct EntrySet<A: Allocator> {
     by_dot: EntriesByDot<A>,
-    by_mark: TrackIndex<A>,
+    by_hash: TrackIndex<A>,
 }
 
 impl<A: Allocator> Model for EntrySet<A> {
@@ -34,9 +34,9 @@ impl<A: Allocator> Model for EntrySet<A> {
 
     ghost coded = { entry_set_code };
 
-    ghost view = { λ s. record { map = s.by_dot.map; room = min s.by_dot.room s.by_mark.room } };
+    ghost view = { λ s. record { map = s.by_dot.map; room = min s.by_dot.room s.by_hash.room } };
 
-    ghost invariant = { λ s. Covers s.by_mark s.by_dot.map };
+    ghost invariant = { λ s. Covers s.by_hash s.by_dot.map };
 }
 
 impl<A: Allocator> EntrySet<A> {
@@ -94,11 +94,11 @@ impl<A: Allocator> EntrySet<A> {
 
     /// The name's dot of least clock whose entry tracks this process under this topic and key; `None` if there is none.
     /// An index of the name finds the dot by one look-up. Without such an index, or once several of the name's entries
-    /// had the mark of this process, topic and key at the same time, the call walks over the name's entries.
+    /// had the hash of this process, topic and key at the same time, the call walks over the name's entries.
     pub fn find(&self, name: u16, pid: u64, topic: &Word<A>, key: &Word<A>) -> Option<Dot>
         ensures { result ≡ slice_get (dots_of name (is_tracked_as pid topic.now key.now) self.now.map) 0 }
     {
-        match self.by_mark.holder(name, mark(pid, topic, key)) {
+        match self.by_hash.holder(name, hash(pid, topic, key)) {
             None => None,
             Some(Holder::One(dot)) => self.tracked_at(dot, name, pid, topic, key),
             Some(Holder::Several) => self.by_dot.first_tracked(name, pid, topic, key),
@@ -132,7 +132,7 @@ impl<A: Allocator> EntrySet<A> {
         ensures room { self.old.room ≤ self.new.room }
     {
         let entry = self.by_dot.remove(dot)?;
-        self.by_mark.remove(&entry);
+        self.by_hash.remove(&entry);
         Some(entry)
     }
 
@@ -143,11 +143,11 @@ impl<A: Allocator> EntrySet<A> {
         ensures map { self.new.map ≡ fin.remove self.old.map dot }
         ensures room { self.old.room ≤ self.new.room }
     {
-        if !self.by_mark.is_of(dot.name) {
+        if !self.by_hash.is_of(dot.name) {
             return self.by_dot.discard(dot);
         }
         match self.by_dot.get(dot) {
-            Some(entry) => self.by_mark.remove(entry),
+            Some(entry) => self.by_hash.remove(entry),
             None => return false,
         }
         self.by_dot.discard(dot)
@@ -168,7 +168,7 @@ impl<A: Allocator + Copy> EntrySet<A> {
     {
         EntrySet {
             by_dot: EntriesByDot::new(alloc),
-            by_mark: TrackIndex::of_none(),
+            by_hash: TrackIndex::of_none(),
         }
     }
 
@@ -178,7 +178,7 @@ impl<A: Allocator + Copy> EntrySet<A> {
     {
         EntrySet {
             by_dot: EntriesByDot::new(alloc),
-            by_mark: TrackIndex::of(name),
+            by_hash: TrackIndex::of(name),
         }
     }
 
@@ -191,7 +191,7 @@ impl<A: Allocator + Copy> EntrySet<A> {
         ensures succeeds { count ≤ self.old.room → IsOk result }
     {
         self.by_dot.make_room(count)?;
-        self.by_mark.make_room(count, self.by_dot.allocator())
+        self.by_hash.make_room(count, self.by_dot.allocator())
     }
 
     /// Inserts a new entry. If room was made, it asks for no memory. Otherwise the entry comes back if memory is
@@ -205,14 +205,14 @@ impl<A: Allocator + Copy> EntrySet<A> {
         ensures given_back { IfErr result (λ failed. failed.0 ≡ entry) }
     {
         let alloc = self.by_dot.allocator();
-        if let Err(failed) = self.by_mark.make_room(1, alloc) {
+        if let Err(failed) = self.by_hash.make_room(1, alloc) {
             return Err((entry, failed));
         }
-        self.by_mark.add(&entry);
+        self.by_hash.add(&entry);
         match self.by_dot.insert(entry) {
             Ok(()) => Ok(()),
             Err(entry) => {
-                self.by_mark.remove(&entry);
+                self.by_hash.remove(&entry);
                 Err((entry, Oom))
             }
         }
@@ -244,7 +244,7 @@ impl<A: Allocator + Copy> EntrySet<A> {
         let Some(entry) = self.by_dot.take(dot)? else {
             return Ok(None);
         };
-        self.by_mark.remove(entry.entry());
+        self.by_hash.remove(entry.entry());
         Ok(Some(entry))
     }
 
@@ -257,12 +257,12 @@ impl<A: Allocator + Copy> EntrySet<A> {
         ensures err { OnErr result (self.new.map ≡ self.old.map) }
     {
         let alloc = self.by_dot.allocator();
-        self.by_mark.make_room(1, alloc)?;
-        self.by_mark.add(entry.entry());
+        self.by_hash.make_room(1, alloc)?;
+        self.by_hash.add(entry.entry());
         match self.by_dot.put(entry) {
             Ok(()) => Ok(()),
             Err(entry) => {
-                self.by_mark.remove(entry.entry());
+                self.by_hash.remove(entry.entry());
                 Err(Oom)
             }
         }
@@ -274,7 +274,7 @@ impl<A: Allocator + Copy> EntrySet<A> {
         requires room { 0 < self.old.room }
         ensures { self.new.map ≡ fin.insert self.old.map entry.dot (presence_of entry) }
     {
-        self.by_mark.add(entry.entry());
+        self.by_hash.add(entry.entry());
         self.by_dot.put_ready(entry);
     }
 
@@ -305,8 +305,8 @@ impl<A: Allocator + Copy> EntrySet<A> {
         ensures { IfOk result (λ part. part.map ≡ entries_of_names (set.contains names) self.now.map) }
     {
         let by_dot = self.by_dot.only(names)?;
-        let by_mark = TrackIndex::of_none();
-        Ok(EntrySet { by_dot, by_mark })
+        let by_hash = TrackIndex::of_none();
+        Ok(EntrySet { by_dot, by_hash })
     }
 
     /// The dots of the name's entries that track this process, by rising clock. It walks over the name's entries.
@@ -321,7 +321,7 @@ impl<A: Allocator + Copy> EntrySet<A> {
         ensures { IfOk result (λ copy. copy.map ≡ self.now.map) }
     {
         let by_dot = self.by_dot.try_copy()?;
-        let by_mark = TrackIndex::of_none();
-        Ok(EntrySet { by_dot, by_mark })
+        let by_hash = TrackIndex::of_none();
+        Ok(EntrySet { by_dot, by_hash })
     }
 }

@@ -1,11 +1,11 @@
-//! `TrackIndex`: finds the dot of an entry by its mark, among the entries of one name.
+//! `TrackIndex`: finds the dot of an entry by its hash, among the entries of one name.
 ghost use Rattle.std.specs.Prelude.{◌≡◌, ◌≢◌, ◌+◌, ◌<◌, ◌≤◌, IsOk, OnOk, ℕ};
 ghost use Rattle.dots_core.specs.declared.dot.Dot.{Dot};
 ghost use Rattle.std.specs.HashMap.{spare};
-ghost use Rattle.payload_core.specs.Marks.{mark_of};
+ghost use Rattle.payload_core.specs.Hashes.{hash_of};
 ghost use Rattle.payload_core.specs.TrackIndices.{Holds, held_as, holder_of, is_of};
 
-use crate::mark::mark;
+use crate::hash::hash;
 use dots_core::{Dot, Oom};
 use entry_core::Entry;
 use std::alloc::Allocator;
@@ -13,20 +13,20 @@ use std::collections::HashMap;
 use std::hash::{BuildHasherDefault, FoldHasher};
 use std::marker::Model;
 
-/// Where the entries with a mark are.
+/// Where the entries with a hash are.
 #[derive(Clone, Copy)]
 pub enum Holder {
     /// At this dot alone.
     One(Dot),
-    /// The index doesn't know: several entries had the mark at the same time, or the index isn't of their name.
+    /// The index doesn't know: several entries had the hash at the same time, or the index isn't of their name.
     Several,
 }
 
-/// For each mark, where the entries with it are. An index boxes this map, so that an entry set without an index stays
+/// For each hash, where the entries with it are. An index boxes this map, so that an entry set without an index stays
 /// small.
 type Holders<A> = HashMap<u64, Holder, BuildHasherDefault<FoldHasher>, A>;
 
-/// Where the entries of one name are, by their marks. A mark that the index doesn't have belongs to no entry of the
+/// Where the entries of one name are, by their hashes. A hash that the index doesn't have belongs to no entry of the
 /// index's name. An index of no name knows nothing, and `holder` always gives `Several`. An index takes no memory
 /// before room is made.
 #[derive(Drop)]
@@ -62,7 +62,7 @@ impl<A: Allocator> TrackIndex<A> {
 
     /// An index of no name, which is right whatever entries there are. It takes no memory.
     pub fn of_none() -> TrackIndex<A>
-        ensures { (name mark : ℕ) (dot : Dot) → Holds (holder_of result name mark) dot }
+        ensures { (name hash : ℕ) (dot : Dot) → Holds (holder_of result name hash) dot }
     {
         TrackIndex {
             name: None,
@@ -80,16 +80,16 @@ impl<A: Allocator> TrackIndex<A> {
         }
     }
 
-    /// Where the name's entries with this mark are; `None` if no entry has the mark. Always `Several` if the index
+    /// Where the name's entries with this hash are; `None` if no entry has the hash. Always `Several` if the index
     /// isn't of the name.
-    pub fn holder(&self, name: u16, mark: u64) -> Option<Holder>
-        ensures { result ≡ holder_of self.now name mark }
+    pub fn holder(&self, name: u16, hash: u64) -> Option<Holder>
+        ensures { result ≡ holder_of self.now name hash }
     {
         if !self.is_of(name) {
             return Some(Holder::Several);
         }
         match &self.holders {
-            Some(holders) => holder_in(holders, mark),
+            Some(holders) => holder_in(holders, hash),
             None => None,
         }
     }
@@ -102,10 +102,10 @@ impl<A: Allocator> TrackIndex<A> {
         if !self.is_of(entry.dot.name) {
             return;
         }
-        let mark = mark(entry.pid, entry.topic(), entry.key());
+        let hash = hash(entry.pid, entry.topic(), entry.key());
         // form: taken out for the edit, and put back
         if let Some(mut holders) = self.holders.take() {
-            take_out(&mut holders, mark, entry.dot);
+            take_out(&mut holders, hash, entry.dot);
             self.holders = Some(holders);
         }
     }
@@ -136,57 +136,57 @@ impl<A: Allocator + Copy> TrackIndex<A> {
     /// Notes that the entry came to its dot; an entry of another name changes nothing. Room must have been made.
     pub fn add(&mut self, entry: &Entry<A>)
         requires { 0 < self.old.room }
-        ensures added { Holds (holder_of self.new entry.now.dot.name (mark_of entry.now.pid entry.now.topic entry.now.key)) entry.now.dot }
+        ensures added { Holds (holder_of self.new entry.now.dot.name (hash_of entry.now.pid entry.now.topic entry.now.key)) entry.now.dot }
         ensures stays { (n m : ℕ) (d : Dot) → Holds (holder_of self.old n m) d → Holds (holder_of self.new n m) d }
         ensures room { self.old.room ≤ self.new.room + 1 }
     {
         if !self.is_of(entry.dot.name) {
             return;
         }
-        let mark = mark(entry.pid, entry.topic(), entry.key());
+        let hash = hash(entry.pid, entry.topic(), entry.key());
         // form: taken out for the edit, and put back
         if let Some(mut holders) = self.holders.take() {
-            put_in(&mut holders, mark, entry.dot);
+            put_in(&mut holders, hash, entry.dot);
             self.holders = Some(holders);
         }
     }
 }
 
-/// Where the entries with this mark are, by these holders; `None` if no entry has the mark.
-fn holder_in<A: Allocator>(holders: &Holders<A>, mark: u64) -> Option<Holder>
-    ensures { result ≡ held_as holders.now.entries mark }
+/// Where the entries with this hash are, by these holders; `None` if no entry has the hash.
+fn holder_in<A: Allocator>(holders: &Holders<A>, hash: u64) -> Option<Holder>
+    ensures { result ≡ held_as holders.now.entries hash }
 {
-    match holders.get(&mark) {
+    match holders.get(&hash) {
         Some(holder) => Some(*holder),
         None => None,
     }
 }
 
-/// Notes that an entry with this mark left the dot. A mark that has `Several` keeps it.
-fn take_out<A: Allocator>(holders: &mut Holders<A>, mark: u64, dot: Dot)
+/// Notes that an entry with this hash left the dot. A hash that has `Several` keeps it.
+fn take_out<A: Allocator>(holders: &mut Holders<A>, hash: u64, dot: Dot)
     ensures others { (m : ℕ) (d : Dot) → d ≢ dot → Holds (held_as holders.old.entries m) d → Holds (held_as holders.new.entries m) d }
     ensures room { spare holders.old ≤ spare holders.new }
 {
-    if let Some(Holder::One(held)) = holder_in(holders, mark) {
+    if let Some(Holder::One(held)) = holder_in(holders, hash) {
         if held == dot {
-            holders.remove(&mark);
+            holders.remove(&hash);
         }
     }
 }
 
-/// Notes that an entry with this mark came to the dot. If the mark has a holder already, the holder becomes `Several`.
-fn put_in<A: Allocator + Copy>(holders: &mut Holders<A>, mark: u64, dot: Dot)
+/// Notes that an entry with this hash came to the dot. If the hash has a holder already, the holder becomes `Several`.
+fn put_in<A: Allocator + Copy>(holders: &mut Holders<A>, hash: u64, dot: Dot)
     requires { 0 < spare holders.old }
-    ensures added { Holds (held_as holders.new.entries mark) dot }
+    ensures added { Holds (held_as holders.new.entries hash) dot }
     ensures stays { (m : ℕ) (d : Dot) → Holds (held_as holders.old.entries m) d → Holds (held_as holders.new.entries m) d }
     ensures room { spare holders.old ≤ spare holders.new + 1 }
 {
-    let holder = if holders.contains_key(&mark) {
+    let holder = if holders.contains_key(&hash) {
         Holder::Several
     } else {
         Holder::One(dot)
     };
     // form: the checker asks for the type of the result here
-    let put: Result<_, _> = holders.insert(mark, holder);
+    let put: Result<_, _> = holders.insert(hash, holder);
     drop(put.unwrap());
 }

@@ -1,7 +1,8 @@
 //! `DrawFault`: why nothing is drawn.
 ghost use Rattle.std.specs.Prelude.{◌≡◌};
 
-use payload_core::{Oom, WordFault};
+use dots_core::Oom;
+use payload_core::WordFault;
 use thiserror::Error;
 
 /// Why nothing is drawn.

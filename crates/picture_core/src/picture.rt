@@ -15,7 +15,7 @@ use crate::range::{Range, first_row, last_row};
 use crate::shade::drawn_steps;
 use crate::shapes::{put_bar, put_lane, put_lane_name};
 use bench_core::{Bench, Names, TextSet};
-use payload_core::Oom;
+use dots_core::Oom;
 use report_core::name_at;
 use std::alloc::Allocator;
 use svg_core::{Attribute, Value, put_end, put_leaf, put_start};

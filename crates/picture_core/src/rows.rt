@@ -13,7 +13,7 @@ use crate::shade::{Drawn, step_at};
 use crate::shapes::{Arrow, CallMark, put_mark, put_message, put_number_label, put_words_label};
 use crate::sheet::Sheet;
 use bench_core::{Act, Bench, Event, Journal, Reply, Step};
-use payload_core::Oom;
+use dots_core::Oom;
 use report_core::{asked_undo, node_of_step};
 use std::alloc::Allocator;
 use transcript_core::sender_of;

@@ -5,7 +5,7 @@ ghost use Rattle.journal_core.specs.Holdings.{kepts};
 ghost use Rattle.picture_core.specs.Shades.{drawn_steps, nothing_drawn, of_message, shade_of, step_at, with_reply};
 
 use bench_core::{Bench, Journal, Reply};
-use payload_core::Oom;
+use dots_core::Oom;
 use std::alloc::Allocator;
 
 /// Whether a step that was taken remains, and whether it is painted.

@@ -6,7 +6,7 @@ ghost use Rattle.picture_core.specs.Shapes.{bar, cross_path, cross_sign, dot_sig
 
 use crate::kind::Kind;
 use crate::plan::{across, down, waits_at};
-use payload_core::Oom;
+use dots_core::Oom;
 use std::alloc::Allocator;
 use svg_core::{Attribute, Value, put_end, put_leaf, put_number, put_start};
 

@@ -7,7 +7,8 @@ use crate::draw_fault::DrawFault;
 use crate::online::Asked;
 use crate::picture::{painted_of, picture, range_of};
 use bench_core::{Bench, TextSet};
-use payload_core::{Oom, Word};
+use dots_core::Oom;
+use payload_core::Word;
 use std::alloc::Allocator;
 use svg_core::laws::document_law;
 

@@ -5,7 +5,7 @@ ghost use Rattle.picture_core.specs.Words.{reply_words, row_words, title_told, w
 
 use bench_core::{Event, Reply};
 use diff_core::OnlineRow;
-use payload_core::Oom;
+use dots_core::Oom;
 use report_core::{Acted, put_acted};
 use std::alloc::Allocator;
 use transcript_core::{CastRef, put_call};

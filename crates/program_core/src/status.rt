@@ -13,7 +13,7 @@ use crate::printing::carry_out;
 use bench_core::Limits;
 use clap::error::ErrorKind;
 use command_line::{Choice, Subcommand, choice};
-use payload_core::Oom;
+use dots_core::Oom;
 use script_core::{Steps, write_out};
 use std::alloc::{Allocator, Global};
 use std::convert::AsStr;

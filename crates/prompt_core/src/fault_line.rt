@@ -2,8 +2,8 @@
 ghost use Rattle.std.specs.Prelude.{◌≡◌, ◌++◌, OnOk};
 ghost use Rattle.prompt_core.specs.Responses.{fault_line, kind_name};
 
+use dots_core::Oom;
 use grammar_core::FaultKind;
-use payload_core::Oom;
 use std::alloc::Allocator;
 
 #[tactic(auto, unfolding(crate::specs::Responses::kind_name))]

@@ -1,5 +1,5 @@
 //! `PromptFault`: why a prompt ends before its input does.
-use payload_core::Oom;
+use dots_core::Oom;
 use stream_core::InputFault;
 use thiserror::Error;
 

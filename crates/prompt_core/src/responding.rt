@@ -4,8 +4,8 @@ ghost use Rattle.prompt_core.specs.Responses.{response};
 
 use crate::own::put_own;
 use crate::setting::PromptSetting;
+use dots_core::Oom;
 use grammar_core::{FaultKind, ScriptFault};
-use payload_core::Oom;
 use run_core::Prompt;
 use std::alloc::Allocator;
 

@@ -8,8 +8,8 @@ ghost use Rattle.prompt_core.specs.Responses.{alone, drawn, run_word, script_wit
 use crate::fault_line::{put_fault, put_text};
 use crate::sent::put_sent;
 use bench_core::Bench;
+use dots_core::Oom;
 use grammar_core::{FaultKind, LONGEST_SCRIPT, ScriptFault};
-use payload_core::Oom;
 use picture_core::draw_whole;
 use run_core::Prompt;
 use std::alloc::Allocator;

@@ -8,8 +8,9 @@ ghost use Rattle.report_core.specs.Rows.{row_line, row_lines};
 ghost use Rattle.prompt_core.specs.Sent.{message_line, message_text, messages_text, rows_of, sent_line, sent_text};
 
 use bench_core::{Bench, Journal, Kept, Names, Node};
+use dots_core::Oom;
 use journal_core::Steps;
-use payload_core::{Entry, EntrySet, Oom, Payload};
+use payload_core::{Entry, EntrySet, Payload};
 use report_core::{name_at, node, put_act};
 use std::alloc::Allocator;
 use transcript_core::is_sent_by;

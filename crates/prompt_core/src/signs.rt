@@ -3,7 +3,7 @@ ghost use Rattle.std.specs.Prelude.{◌≡◌, IfOk, string_bytes};
 ghost use Rattle.prompt_core.specs.Signs.{ShowsSign, next_step, sign};
 
 use crate::out::put_out;
-use payload_core::Oom;
+use dots_core::Oom;
 use run_core::Prompt;
 use std::alloc::Allocator;
 use std::io::Write;

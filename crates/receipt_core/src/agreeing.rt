@@ -8,7 +8,7 @@ ghost use Rattle.receipt_core.specs.Marks.{Within};
 use crate::places::{named_place, none_twice};
 use crate::receipt::Receipt;
 use bench_core::{Act, Event, History, Reply};
-use payload_core::Oom;
+use dots_core::Oom;
 use std::alloc::Allocator;
 
 /// Whether two recorded calls are the same, with the same actor and reply.

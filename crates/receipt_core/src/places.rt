@@ -5,7 +5,7 @@ ghost use Rattle.receipt_core.specs.Agree.{named, places, NoneTwice};
 ghost use Rattle.receipt_core.specs.Marks.{Fresh, Within};
 
 use crate::receipt::Receipt;
-use payload_core::Oom;
+use dots_core::Oom;
 use std::alloc::Allocator;
 
 /// The place that a receipt names; 0 if it names none.

@@ -2,7 +2,7 @@
 ghost use Rattle.std.specs.Prelude.{◌≡◌};
 ghost use Rattle.receipt_core.specs.Races.{fault_of_workers};
 
-use payload_core::Oom;
+use dots_core::Oom;
 use thiserror::Error;
 
 /// Why a race may not begin (`UnknownActor`, `NoRoom`), asked no line (`WorkerRefused`), or can't be vouched for

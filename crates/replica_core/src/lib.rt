@@ -21,7 +21,6 @@ mod view;
 
 pub use change::Change;
 pub use node_limits::NodeLimits;
-pub use payload_core::Oom;
 pub use replica::Replica;
 pub use replica_fault::ReplicaFault;
 pub use status::Status;

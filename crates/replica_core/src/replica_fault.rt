@@ -1,5 +1,5 @@
 //! `ReplicaFault`: why a replica refuses a call.
-use payload_core::Oom;
+use dots_core::Oom;
 use thiserror::Error;
 
 /// Why a replica refuses a call, in the order in which the causes are looked for; `OutOfMemory` comes wherever memory

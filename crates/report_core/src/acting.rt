@@ -12,7 +12,7 @@ use crate::rows::{put_both, put_lines, put_reply};
 use crate::step_diffs::{none, put_step, step_diff, undo_diff};
 use bench_core::{Act, Bench, Fault, Names, Reply};
 use diff_core::Diff;
-use payload_core::Oom;
+use dots_core::Oom;
 use std::alloc::Allocator;
 
 /// What an act came to: the bench's reply, and what the act changed.

@@ -6,8 +6,7 @@ ghost use Rattle.report_core.specs.Dots.{clock_of, cloud_of, status_text, cloud_
 
 use crate::rows::name_at;
 use bench_core::{Names, Node};
-use dots_core::DotSet;
-use payload_core::Oom;
+use dots_core::{DotSet, Oom};
 use replica_core::{Replica, Status};
 use std::alloc::Allocator;
 

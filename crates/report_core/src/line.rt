@@ -6,8 +6,8 @@ ghost use Rattle.report_core.specs.Rows.{parts_text, reply_line};
 ghost use Rattle.bench_core.specs.declared.reply.Reply.TheVariants.{Taken, Undone};
 
 use arrayvec::ArrayString;
+use dots_core::Oom;
 use itoa::Buffer;
-use payload_core::Oom;
 use std::alloc::Allocator;
 
 /// The end of a text, up to 512 bytes, until it is appended to the text. Writing to it asks for no memory.

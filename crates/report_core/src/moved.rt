@@ -17,7 +17,7 @@ use bench_core::laws::unwind_law;
 use bench_core::{Act, Bench};
 use diff_core::laws::online_law;
 use diff_core::{Diff, OnlineRow, net};
-use payload_core::Oom;
+use dots_core::Oom;
 use std::alloc::Allocator;
 use std::marker::Model;
 

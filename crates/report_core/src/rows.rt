@@ -8,7 +8,7 @@ ghost use Rattle.report_core.specs.Rows.{reply_line, spaced_numbers, future_line
 use crate::line::{Line, Parts, end, put_part, put_parts};
 use bench_core::{Names, Reply};
 use diff_core::{Diff, EntryRow, OnlineRow};
-use payload_core::Oom;
+use dots_core::Oom;
 use std::alloc::Allocator;
 
 /// The name of the node with this number; empty if there is no such node.

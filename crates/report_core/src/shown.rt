@@ -6,7 +6,7 @@ ghost use Rattle.report_core.specs.Shown.{node_of, rows_at, rows_in};
 use crate::rows::put_online;
 use bench_core::{Bench, Node};
 use diff_core::{OnlineRow, online_list};
-use payload_core::Oom;
+use dots_core::Oom;
 use std::alloc::Allocator;
 
 /// The node with this number; `None` if no node has it.

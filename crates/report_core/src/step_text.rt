@@ -7,8 +7,8 @@ ghost use Rattle.report_core.specs.StepText.{presence_text, chosen_text, extract
 
 use crate::rows::name_at;
 use bench_core::{Journal, Kept, Names, Step};
-use dots_core::NameSet;
-use payload_core::{Oom, Word};
+use dots_core::{NameSet, Oom};
+use payload_core::Word;
 use std::alloc::Allocator;
 
 /// Appends `verb`, which ends in a space, and `PID TOPIC KEY META`.

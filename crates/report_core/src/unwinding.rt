@@ -15,7 +15,7 @@ use crate::moved::{Moved, undo_each};
 use crate::rows::{put_change, put_future, put_reply, put_undone};
 use bench_core::{Bench, Fault, Reply};
 use diff_core::laws::online_law;
-use payload_core::Oom;
+use dots_core::Oom;
 use std::alloc::Allocator;
 
 /// Whether the fault is `OutOfMemory`, which no report shows.

@@ -3,7 +3,7 @@ ghost use Rattle.std.specs.Prelude.{◌≡◌, ◌++◌, OnOk, IfOk, string_byte
 ghost use Rattle.run_core.specs.Report.{command_text, after_command, commands_text, call_of, history_text};
 
 use bench_core::{Bench, Event, History};
-use payload_core::Oom;
+use dots_core::Oom;
 use report_core::act;
 use std::alloc::Allocator;
 

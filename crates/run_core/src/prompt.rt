@@ -8,8 +8,8 @@ ghost use Rattle.grammar_core.specs.declared.fault.FaultKind.TheVariants.{OutOfM
 
 use crate::run;
 use bench_core::{Bench, Limits, TextSet};
+use dots_core::Oom;
 use grammar_core::{Cast, FaultKind, Line, Reading, read_line};
-use payload_core::Oom;
 use std::alloc::Allocator;
 use std::marker::Model;
 use std::mem::replace;

@@ -4,8 +4,8 @@ ghost use Rattle.run_core.specs.Report.{command_text, after_command, commands_te
 ghost use Rattle.grammar_core.specs.Scripts.{plain_command, plain_lines, plain_script};
 
 use bench_core::{Bench, Limits};
+use dots_core::Oom;
 use grammar_core::{Command, Line, Script, node_names};
-use payload_core::Oom;
 use report_core::{act, node, put_dots, put_journal, show, unwind, why};
 use std::alloc::Allocator;
 

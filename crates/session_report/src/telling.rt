@@ -10,7 +10,7 @@ ghost use Rattle.recording_core.specs.Versions.{number_of};
 ghost use Rattle.recording_core.specs.declared.session_fault.SessionFault.TheVariants as sessions;
 
 use bench_core::{Bench, Event, History, Reply};
-use payload_core::Oom;
+use dots_core::Oom;
 use report_core::act;
 use run_core::Played;
 use session_core::{Acts, SessionFault, Version, read_session};

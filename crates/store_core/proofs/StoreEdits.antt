@@ -13,7 +13,7 @@ use Rattle.dots_core.proofs.Order.{dot_total, is_dot, is_dot-true}
 use Rattle.dots_core.proofs.Sets.{contains-insert, contains_insert_other, same_dots}
 use Rattle.entry_core.specs.Presences.{Presence, Entry, Entries, entry_of, presence_of}
 use Rattle.block_core.proofs.EntryMaps.{get-insert, get-remove, get_removed, same_entries}
-use Rattle.payload_core.proofs.Marked.{dot_found}
+use Rattle.payload_core.proofs.Hashed.{dot_found}
 use Rattle.store_core.specs.Stores.{Store}
 use Rattle.store_core.specs.LeftEntries.{IsFree, dots_before, put, taken}
 

@@ -4,8 +4,8 @@ ghost use Rattle.report_core.specs.Rows.{name_at};
 ghost use Rattle.transcript_core.specs.Actors.{actor_name, console_count, console_words, free_consoles, named_consoles, with_actor, with_free};
 
 use bench_core::{Bench, History, Names, TextSet};
+use dots_core::Oom;
 use grammar_core::words_of;
-use payload_core::Oom;
 use report_core::name_at;
 use std::alloc::Allocator;
 

@@ -1,8 +1,8 @@
 //! `TranscriptFault`: why the calls of a bench can't be written as a script.
 ghost use Rattle.std.specs.Prelude.{◌≡◌};
 
+use dots_core::Oom;
 use grammar_core::ScriptFault;
-use payload_core::Oom;
 use thiserror::Error;
 
 /// Why the calls of a bench can't be written as a script.

@@ -5,7 +5,7 @@ ghost use Rattle.transcript_core.specs.Scripts.{call_line};
 
 use crate::actors::{CastRef, actor_name};
 use bench_core::Act;
-use payload_core::Oom;
+use dots_core::Oom;
 use report_core::{name_at, put_act};
 use std::alloc::Allocator;
 

@@ -8,8 +8,8 @@ ghost use Rattle.run_core.specs.Report.{after_command};
 ghost use Rattle.transcript_core.specs.Refusals.{fault_in, first_from, first_in, first_recorded, first_refused, refusal_in, refusal_of, unwind_refusal};
 
 use bench_core::{Act, Bench, Fault, History, Limits, Reply};
+use dots_core::Oom;
 use grammar_core::{Command, Line, Script, lines, node_names};
-use payload_core::Oom;
 use report_core::{is_out_of_memory, reply_of, unwind};
 use std::alloc::Allocator;
 

@@ -4,7 +4,7 @@ ghost use Rattle.transcript_core.specs.Runs.{nodes_line, step_line};
 
 use crate::script::put_nodes;
 use bench_core::{Kept, Names};
-use payload_core::Oom;
+use dots_core::Oom;
 use report_core::put_act;
 use std::alloc::Allocator;
 

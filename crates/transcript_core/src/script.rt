@@ -8,7 +8,7 @@ use crate::lines::put_call;
 use crate::read_back::read_back;
 use bench_core::laws::replay_law;
 use bench_core::{Bench, Event, History, Names, TextSet};
-use payload_core::Oom;
+use dots_core::Oom;
 use report_core::name_at;
 use std::alloc::Allocator;
 

@@ -10,8 +10,8 @@ ghost use Rattle.transcript_core.specs.Steps.{bench_steps, byte_text, command_he
 use crate::actors::{CastRef, actor_name};
 use crate::lines::put_call;
 use bench_core::{Act, Bench, Event, History, Limits, Names, Reply, TextSet};
+use dots_core::Oom;
 use grammar_core::{Command, Line, Script, console_names, lines, node_names};
-use payload_core::Oom;
 use report_core::{act, name_at};
 use run_core::command as obey;
 use std::alloc::Allocator;

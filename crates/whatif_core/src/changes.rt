@@ -4,7 +4,7 @@ ghost use Rattle.change_core.specs.Changes.{change_at, changes, changes_by, chan
 
 use bench_core::Kept;
 use change_core::{Change, Kind, is_change};
-use payload_core::Oom;
+use dots_core::Oom;
 use std::alloc::Allocator;
 
 type Changes<A> = Vec<Change, A>;

@@ -5,7 +5,7 @@ ghost use Rattle.whatif_core.specs.Differences.{are_same, counted, is_with, near
 
 use change_core::{Change, Kind, Rows};
 use diff_core::OnlineRow;
-use payload_core::Oom;
+use dots_core::Oom;
 use std::alloc::Allocator;
 use std::marker::Model;
 

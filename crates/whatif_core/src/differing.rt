@@ -13,7 +13,7 @@ use crate::laws::exact_law;
 use bench_core::{Bench, Kept};
 use change_core::{Change, Question, Search, copied, rows_before};
 use diff_core::OnlineRow;
-use payload_core::Oom;
+use dots_core::Oom;
 use progress_core::{Tried, Watch};
 use std::alloc::Allocator;
 

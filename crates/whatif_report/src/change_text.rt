@@ -7,7 +7,7 @@ ghost use Rattle.whatif_report.specs.Texts.{change_line, changed_words, differen
 
 use bench_core::{Journal, Kept, Names};
 use diff_core::OnlineRow;
-use payload_core::Oom;
+use dots_core::Oom;
 use report_core::{put_act, put_lines};
 use std::alloc::Allocator;
 use whatif_core::{Difference, Kind};

@@ -3,7 +3,7 @@ ghost use Rattle.std.specs.Prelude.{◌≡◌, ◌++◌, [], IfOk, OnOk, string_
 ghost use Rattle.transcript_core.specs.Runs.{run_text, step_lines};
 
 use bench_core::{Kept, Names};
-use payload_core::Oom;
+use dots_core::Oom;
 use std::alloc::Allocator;
 use transcript_core::{put_nodes_line, put_step_line};
 

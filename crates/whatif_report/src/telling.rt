@@ -9,7 +9,7 @@ ghost use Rattle.whatif_report.specs.Texts.{asked_words, counts_words, differenc
 
 use crate::change_text::{Recorded, put_difference};
 use bench_core::{Bench, Names};
-use payload_core::Oom;
+use dots_core::Oom;
 use progress_core::{Tried, Watch};
 use report_core::{name_at, put_rows};
 use std::alloc::Allocator;

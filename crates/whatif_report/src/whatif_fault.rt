@@ -1,7 +1,8 @@
 //! `WhatifFault`: why a question gets no text, or a change no script.
 ghost use Rattle.std.specs.Prelude.{◌≡◌};
 
-use payload_core::{Oom, WordFault};
+use dots_core::Oom;
+use payload_core::WordFault;
 use thiserror::Error;
 
 /// Why a question gets no text, or a change no script.

@@ -11,7 +11,7 @@ ghost use Rattle.receipt_core.specs.Replies.{AreMachineReplies};
 use crate::gate::Gate;
 use crate::workers::ask_all;
 use bench_core::{Act, Bench};
-use payload_core::Oom;
+use dots_core::Oom;
 use receipt_core::{RaceFault, Receipts, WorkersFault, known_of, refusal, vouched};
 use std::alloc::Allocator;
 use std::sync::{Mutex, Wait};

@@ -2,7 +2,7 @@
 use crate::gate::Gate;
 use bench_core::{Act, Bench};
 use crossbeam_channel::{Receiver, Sender};
-use payload_core::Oom;
+use dots_core::Oom;
 use receipt_core::{Receipt, WorkersFault, ask};
 use std::alloc::Allocator;
 use std::sync::{Mutex, Wait};

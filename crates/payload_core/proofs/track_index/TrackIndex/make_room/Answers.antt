@@ -1,6 +1,6 @@
 use Rattle.std.proofs.Common.{◌≡◌, ◌⊎◌, inl, inr, [], None, Some, sym, ap, ◌∙◌, subst}
 use Rattle.payload_core.specs.TrackIndices.{TrackIndex, Holds, held_as, holder_of, in_box, is_of}
-use Rattle.payload_core.proofs.Marked.{boxed_still, known_still}
+use Rattle.payload_core.proofs.Hashed.{boxed_still, known_still}
 use Rattle.payload_core.proofs.track_index.TrackIndex.make_room.Goals as goal
 use Rattle.payload_core.proofs.track_index.TrackIndex.make_room.Goals.{in-Some, in-None+in_ok-holders-in-None}
 

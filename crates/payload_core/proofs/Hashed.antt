@@ -5,7 +5,7 @@ use Rattle.std.specs.FinMap as fin
 use Rattle.dots_core.specs.declared.dot.Dot.{Dot}
 use Rattle.dots_core.specs.Dots.{dot_cmp}
 use Rattle.dots_core.proofs.Order.{is_dot, is_dot-true, is_dot_same}
-use Rattle.payload_core.specs.Marks.{mark_of}
+use Rattle.payload_core.specs.Hashes.{hash_of}
 use Rattle.entry_core.specs.Presences.{Presence, Entry, Entries, entry_of, is_tracked_as, dots_of}
 use Rattle.std.specs.Option.{option_map}
 use Rattle.payload_core.specs.TrackIndices.{TrackIndex, Covers, Holds, dot_if, held_as, holder_of, in_box, tracked_at}
@@ -18,17 +18,17 @@ module _ (name pid : ℕ) (topic key : List ℕ) (m : Entries) (index : TrackInd
   abbrev test : Presence → Bool
   test = is_tracked_as pid topic key
 
-  -- a dot of what is tracked is held under the mark
+  -- a dot of what is tracked is held under the hash
   held : (d : Dot) (p : Presence) → d.name ≡ name → fin.get m d ≡ Some p → test p ≡ true →
-      Holds (holder_of index name (mark_of pid topic key)) d
+      Holds (holder_of index name (hash_of pid topic key)) d
   held d p named at passes =
       let like = tracked_as pid topic key p passes in
-      let same : mark_of p.pid p.topic p.key ≡ mark_of pid topic key = cc (like.0, like.1, like.2) in
-      subst (λ n. Holds (holder_of index n (mark_of pid topic key)) d) named
+      let same : hash_of p.pid p.topic p.key ≡ hash_of pid topic key = cc (like.0, like.1, like.2) in
+      subst (λ n. Holds (holder_of index n (hash_of pid topic key)) d) named
       (subst (λ k. Holds (holder_of index d.name k) d) same (covers.held d p at))
 
-  -- a mark without a holder
-  pub none_held : holder_of index name (mark_of pid topic key) ≡ None → slice_get (dots_of name test m) 0 ≡ None
+  -- a hash without a holder
+  pub none_held : holder_of index name (hash_of pid topic key) ≡ None → slice_get (dots_of name test m) 0 ≡ None
   none_held none = go (dots_of name test m) (dots_of_pass name test m)
     where
       go : (ds : List Dot) → EachPasses name test m ds → slice_get ds 0 ≡ None
@@ -37,8 +37,8 @@ module _ (name pid : ℕ) (topic key : List ℕ) (m : Entries) (index : TrackInd
           let it = each.0 in
           absurd (subst (λ h. Holds h d) none (held d it.1.0 it.0 it.1.1 it.1.2))
 
-  -- a mark with one holder
-  pub one_held : (d : Dot) → holder_of index name (mark_of pid topic key) ≡ Some (One d) →
+  -- a hash with one holder
+  pub one_held : (d : Dot) → holder_of index name (hash_of pid topic key) ≡ Some (One d) →
       slice_get (dots_of name test m) 0 ≡ tracked_at m d name test
   one_held d one = go (dots_of name test m) refl (dots_of_pass name test m) (fin.get m d) refl
     where
@@ -64,52 +64,52 @@ covers_empty index = record { held = λ d p at. absurd (let none = sym (fin.get-
 
 pub covers_insert : (a b : TrackIndex) (m : Entries) (d : Dot) (p : Presence) →
     ((n k : ℕ) (d : Dot) → Holds (holder_of a n k) d → Holds (holder_of b n k) d) →
-    Holds (holder_of b d.name (mark_of p.pid p.topic p.key)) d → Covers a m → Covers b (fin.insert m d p)
+    Holds (holder_of b d.name (hash_of p.pid p.topic p.key)) d → Covers a m → Covers b (fin.insert m d p)
 covers_insert a b m d p stays added covers = record { held = λ q v at. go q v (is_dot q d) refl (sym (get-insert m d q p) ∙ at) }
   where
-    go : (q : Dot) (v : Presence) (t : Bool) → is_dot q d ≡ t → cond t (Some p) (fin.get m q) ≡ Some v → Holds (holder_of b q.name (mark_of v.pid v.topic v.key)) q
+    go : (q : Dot) (v : Presence) (t : Bool) → is_dot q d ≡ t → cond t (Some p) (fin.get m q) ≡ Some v → Holds (holder_of b q.name (hash_of v.pid v.topic v.key)) q
     go q v true e is =
         let here : q ≡ d = is_dot-true q d e in
         let same : p ≡ v = cc in
-        subst (λ (x : Presence). Holds (holder_of b q.name (mark_of x.pid x.topic x.key)) q) same
-        (subst (λ (x : Dot). Holds (holder_of b x.name (mark_of p.pid p.topic p.key)) x) (sym here) added)
+        subst (λ (x : Presence). Holds (holder_of b q.name (hash_of x.pid x.topic x.key)) q) same
+        (subst (λ (x : Dot). Holds (holder_of b x.name (hash_of p.pid p.topic p.key)) x) (sym here) added)
     go q v false e is = stays _ _ q (covers.held q v is)
 
 pub covers_remove : (a b : TrackIndex) (m : Entries) (d : Dot) →
     ((n k : ℕ) (q : Dot) → q ≢ d → Holds (holder_of a n k) q → Holds (holder_of b n k) q) → Covers a m → Covers b (fin.remove m d)
 covers_remove a b m d stays covers = record { held = λ q v at. go q v (is_dot q d) refl (sym (get-remove m d q) ∙ at) }
   where
-    go : (q : Dot) (v : Presence) (t : Bool) → is_dot q d ≡ t → cond t None (fin.get m q) ≡ Some v → Holds (holder_of b q.name (mark_of v.pid v.topic v.key)) q
+    go : (q : Dot) (v : Presence) (t : Bool) → is_dot q d ≡ t → cond t None (fin.get m q) ≡ Some v → Holds (holder_of b q.name (hash_of v.pid v.topic v.key)) q
     go q v true e is = absurd (cc)
     go q v false e is =
         let other : q ≢ d = λ same. let here = ap (λ x. is_dot q x) same ∙ e in absurd (let wrong = sym (is_dot_same q) ∙ here in cc) in
         stays _ _ q other (covers.held q v is)
 
--- edits of the list of holders, by what it tells of each mark
+-- edits of the list of holders, by what it tells of each hash
 
 pub none_of : {X : Type 0} (o : Option X) → is_some o ≡ false → o ≡ None
 none_of None e = refl
 none_of (Some x) e = absurd (cc)
 
-pub added_known : (before after : ℕ → Option Holder) (mark : ℕ) (it : Holder) →
-    ((k : ℕ) → after k ≡ cond (mark == k) (Some it) (before k)) → (before mark ≡ None) ⊎ (it ≡ Several) →
+pub added_known : (before after : ℕ → Option Holder) (hash : ℕ) (it : Holder) →
+    ((k : ℕ) → after k ≡ cond (hash == k) (Some it) (before k)) → (before hash ≡ None) ⊎ (it ≡ Several) →
     (k : ℕ) (d : Dot) → Holds (before k) d → Holds (after k) d
-added_known before after mark it put new k d h = go (mark == k) refl new
+added_known before after hash it put new k d h = go (hash == k) refl new
   where
-    go : (t : Bool) → (mark == k) ≡ t → (before mark ≡ None) ⊎ (it ≡ Several) → Holds (after k) d
+    go : (t : Bool) → (hash == k) ≡ t → (before hash ≡ None) ⊎ (it ≡ Several) → Holds (after k) d
     go false e new = subst (λ o. Holds o d) (sym (put k ∙ ap (λ t. cond t (Some it) (before k)) e)) h
-    go true e (inl none) = absurd (subst (λ o. Holds o d) (ap before (sym (eqb-true mark k e)) ∙ none) h)
+    go true e (inl none) = absurd (subst (λ o. Holds o d) (ap before (sym (eqb-true hash k e)) ∙ none) h)
     go true e (inr several) = subst (λ o. Holds o d) (sym (put k ∙ ap (λ t. cond t (Some it) (before k)) e ∙ ap Some several)) tt
 
-pub removed_known : (before after : ℕ → Option Holder) (mark : ℕ) (dot : Dot) →
-    ((k : ℕ) → after k ≡ cond (mark == k) None (before k)) → before mark ≡ Some (One dot) →
+pub removed_known : (before after : ℕ → Option Holder) (hash : ℕ) (dot : Dot) →
+    ((k : ℕ) → after k ≡ cond (hash == k) None (before k)) → before hash ≡ Some (One dot) →
     (k : ℕ) (d : Dot) → d ≢ dot → Holds (before k) d → Holds (after k) d
-removed_known before after mark dot out one k d other h = go (mark == k) refl
+removed_known before after hash dot out one k d other h = go (hash == k) refl
   where
-    go : (t : Bool) → (mark == k) ≡ t → Holds (after k) d
+    go : (t : Bool) → (hash == k) ≡ t → Holds (after k) d
     go false e = subst (λ o. Holds o d) (sym (out k ∙ ap (λ t. cond t None (before k)) e)) h
     go true e =
-        let here : dot ≡ d = subst (λ o. Holds o d) (ap before (sym (eqb-true mark k e)) ∙ one) h in
+        let here : dot ≡ d = subst (λ o. Holds o d) (ap before (sym (eqb-true hash k e)) ∙ one) h in
         absurd (other (sym here))
 
 -- what an index of the name tells, and one that isn't of it
