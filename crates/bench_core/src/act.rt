@@ -30,7 +30,8 @@ impl<A: Allocator> Act<A> {
         }
     }
 
-    /// A copy of the act. Only the copy of a step may take memory.
+    /// A copy of the act. It takes no memory; an `Err`, which only a step can give, means that the count of a word's
+    /// copies is at its limit.
     pub fn try_copy(&self) -> Result<Self, Oom>
     where
         A: Copy,

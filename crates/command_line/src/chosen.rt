@@ -33,7 +33,7 @@ pub struct Drawing<'w> {
     pub to: Option<u64>,
 }
 
-/// What `import` makes of the events of logs: a script, unless `check` is set.
+/// What `import` makes of the events of logs: a script, a session or a page, unless `check` is set.
 #[derive(Clone, Copy, Debug, PartialEq, Eq)]
 pub struct ImportOptions {
     /// Whether to tell instead where the bench and the real nodes part.
@@ -75,7 +75,7 @@ pub enum Subcommand<'w> {
     Race,
     /// Plays a saved session again. If `strict`, a refused act is a fault.
     Load { strict: bool },
-    /// Makes a script from the events of logs, or tells where the bench and the real nodes part.
+    /// Makes a script, a session or a page from the events of logs, or tells where the bench and the real nodes part.
     Import(ImportOptions),
     /// Tells what the network could have made of a run, or prints a run that leads to one outcome.
     Explore(ExploreOptions<'w>),

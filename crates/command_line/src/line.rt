@@ -289,7 +289,7 @@ fn misspelled(alloc: Global, usage: &str, told: &str) -> Result<Error, AllocErro
     error
 }
 
-/// The choice that the words spell, read by `line`; or the error to print.
+/// The choice that the words spell, as clap's `line` reads them; or the error to print.
 fn choice_by<'a, S: AsStr>(
     line: &mut Command<'a>,
     words: &'a [S],

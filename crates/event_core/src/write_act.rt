@@ -9,12 +9,12 @@ ghost use Rattle.event_core.specs.Format.{list, whole, numbers_of, act_json};
 ghost use Rattle.event_core.specs.Told.{IsAction, IsOperation};
 
 use bench_core::{Act, Step};
-use dots_core::NameSet;
+use dots_core::{NameSet, Oom};
 use serde_json::{Value, json};
-use std::alloc::{AllocError, Allocator, Global};
+use std::alloc::{Allocator, Global};
 
 /// The numbers of the names, in rising order.
-fn numbers_of(heap: Global, names: NameSet) -> Result<Vec<u16>, AllocError>
+fn numbers_of(heap: Global, names: NameSet) -> Result<Vec<u16>, Oom>
     ensures { IfOk result (λ numbers. numbers.items ≡ numbers_of names) }
 {
     let mut numbers = Vec::new(heap);
@@ -26,7 +26,7 @@ fn numbers_of(heap: Global, names: NameSet) -> Result<Vec<u16>, AllocError>
     Ok(numbers)
 }
 
-fn numbers_value(heap: Global, numbers: &[u16]) -> Result<Value, AllocError>
+fn numbers_value(heap: Global, numbers: &[u16]) -> Result<Value, Oom>
     ensures { IfOk result (λ v. view v ≡ list (map whole numbers.now)) }
 {
     let mut values = Vec::new(heap);
@@ -36,7 +36,7 @@ fn numbers_value(heap: Global, numbers: &[u16]) -> Result<Value, AllocError>
     Ok(Value::Array(values))
 }
 
-fn extract_value(heap: Global, names: NameSet) -> Result<Value, AllocError>
+fn extract_value(heap: Global, names: NameSet) -> Result<Value, Oom>
     ensures json { IfOk result (λ v. view v ≡ act_json (Do (Extract names))) }
     ensures told { AreNamesBelow most_names names }
 {
@@ -55,48 +55,48 @@ fn presence_value(
     topic: &str,
     key: &str,
     metadata: &str,
-) -> Result<Value, AllocError>
+) -> Result<Value, Oom>
     ensures { IfOk result (λ v. view v ≡ list
         (string (codes "do") ∷ string verb.now ∷ whole pid ∷ string topic.now ∷ string key.now ∷ string metadata.now ∷ [])) }
 {
     json!(in heap; ["do", verb, pid, topic, key, metadata])
 }
 
-fn leave_value(heap: Global, pid: u64, topic: &str, key: &str) -> Result<Value, AllocError>
+fn leave_value(heap: Global, pid: u64, topic: &str, key: &str) -> Result<Value, Oom>
     ensures { IfOk result (λ v. view v ≡ list (string (codes "do") ∷ string (codes "leave") ∷ whole pid ∷ string topic.now ∷ string key.now ∷ [])) }
 {
     json!(in heap; ["do", "leave", pid, topic, key])
 }
 
-fn leave_all_value(heap: Global, pid: u64) -> Result<Value, AllocError>
+fn leave_all_value(heap: Global, pid: u64) -> Result<Value, Oom>
     ensures { IfOk result (λ v. view v ≡ list (string (codes "do") ∷ string (codes "leaveall") ∷ whole pid ∷ [])) }
 {
     json!(in heap; ["do", "leaveall", pid])
 }
 
 /// A step that has nothing but its verb, as JSON.
-fn bare_value(heap: Global, verb: &str) -> Result<Value, AllocError>
+fn bare_value(heap: Global, verb: &str) -> Result<Value, Oom>
     ensures { IfOk result (λ v. view v ≡ list (string (codes "do") ∷ string verb.now ∷ [])) }
 {
     json!(in heap; ["do", verb])
 }
 
 /// A delivery or an answer as JSON.
-fn message_value(heap: Global, verb: &str, sender: u16, number: u64) -> Result<Value, AllocError>
+fn message_value(heap: Global, verb: &str, sender: u16, number: u64) -> Result<Value, Oom>
     ensures { IfOk result (λ v. view v ≡ list (string (codes "do") ∷ string verb.now ∷ whole sender ∷ whole number ∷ [])) }
 {
     json!(in heap; ["do", verb, sender, number])
 }
 
 /// An up, a down or a permanently down as JSON.
-fn status_value(heap: Global, verb: &str, name: u16) -> Result<Value, AllocError>
+fn status_value(heap: Global, verb: &str, name: u16) -> Result<Value, Oom>
     ensures { IfOk result (λ v. view v ≡ list (string (codes "do") ∷ string verb.now ∷ whole name ∷ [])) }
 {
     json!(in heap; ["do", verb, name])
 }
 
 /// A step as JSON: the word `do`, its verb, and what goes with the verb.
-fn step_value<A: Allocator>(heap: Global, step: &Step<A>) -> Result<Value, AllocError>
+fn step_value<A: Allocator>(heap: Global, step: &Step<A>) -> Result<Value, Oom>
     ensures json { IfOk result (λ v. view v ≡ act_json (Do (plain step.now))) }
     ensures told { IfOk result (λ _. IsOperation (plain step.now)) }
 {
@@ -132,7 +132,7 @@ fn step_value<A: Allocator>(heap: Global, step: &Step<A>) -> Result<Value, Alloc
     }
 }
 
-pub(crate) fn act_value<A: Allocator>(heap: Global, act: &Act<A>) -> Result<Value, AllocError>
+pub(crate) fn act_value<A: Allocator>(heap: Global, act: &Act<A>) -> Result<Value, Oom>
     ensures json { IfOk result (λ v. view v ≡ act_json (plain_act act.now)) }
     ensures told { IfOk result (λ _. IsAction (plain_act act.now)) }
 {

@@ -18,7 +18,8 @@ pub fn one_nearest_law()
     ensures { OneNearestLaw }
 {}
 
-/// If a message that an event waits for is never sent, or an event waits forever, there is no order.
+/// Where no message is sent twice, there is no order if an event waits for a message that no event sends
+/// (`NeverSent`), or if events wait for each other in a circle, so that one can never come (`Circle`).
 pub fn no_order_law()
     ensures { NoOrderLaw }
 {}

@@ -23,7 +23,8 @@ fn told(heap: Global, value: &Value) -> Result<Option<String>, Oom>
     Ok(Some(text_of(heap, value)?))
 }
 
-/// The time that the value has under `time`, as a text; `None` if nothing is there, or neither a string nor a number.
+/// The time that the value has under `time`, as a text; `None` if nothing stands there, or something that is neither a
+/// string nor a number.
 fn time_of(heap: Global, value: &Value) -> Result<Option<String>, Oom>
     ensures { IfOk result (λ time. IsTimeOf (view value.now) (option_map string_bytes time)) }
 {

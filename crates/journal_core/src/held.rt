@@ -70,7 +70,7 @@ impl<'a, B: Allocator> Held<'a, B> {
         self.inverse.take()
     }
 
-    /// Puts the inverse beside the step. If one is there, it is dropped.
+    /// Puts the inverse beside the step. One that is there already is dropped.
     pub(crate) fn put_back(&mut self, inverse: Inverse<&'a B>)
         ensures { self.new ≡ record { kept = self.old.kept; inverse = Some (plain_inverse inverse.entry) } }
     {

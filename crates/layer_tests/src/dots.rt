@@ -384,9 +384,9 @@ fn what_grows_no_cloud_takes_no_memory(rt: HostRuntime) {
     drop(dots);
 }
 
-/// Inserts two dots of name 0: the one that closes the gap, and the one after the last. Then takes out the name's part,
-/// and puts it back. Copies the dots of no names. Says whether both dots were new, the set was empty without the part,
-/// the copy is empty, and name 0 has the context clock 5 and an empty cloud at the end.
+/// Inserts two dots of name 0 into the dots of `THREE`: the one in the gap, and the one after the last. Then takes out
+/// the name's part, and puts it back. Copies the dots of no name at all. Says whether both dots were new, the set was
+/// empty without the part, the copy is empty, and name 0 has the context clock 5 and an empty cloud at the end.
 fn grows_its_context<A: Allocator + Copy>(rt: &impl Abort, dots: &mut DotSet<A>) -> bool {
     let fills = puts_in(rt, dots, Dot { name: 0, clock: 2 });
     let goes_on = puts_in(rt, dots, Dot { name: 0, clock: 5 });

@@ -8,7 +8,7 @@ pub fn plain_law()
     ensures { PlainLaw }
 {}
 
-/// No `<` stands in data with further keys, if none stands in these keys.
+/// No `<` stands in data with further keys behind the calls (`page_data_with`), if none stands in these keys.
 pub fn plain_with_law()
     ensures { PlainWithLaw }
 {}

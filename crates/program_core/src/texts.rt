@@ -10,13 +10,14 @@ ghost use Rattle.program_core.specs.Texts.{session_text};
 use crate::aside::Aside;
 use crate::fault::ProgramFault;
 use bench_core::Bench;
+use dots_core::Oom;
 use grammar_core::LONGEST_SCRIPT;
 use script_core::{
     FaultKind, InputFault, Played, Script, ScriptFault, Steps, parse_script, read_all,
 };
 use session_core::{SessionFault, save};
 use session_report::report_session;
-use std::alloc::{AllocError, Allocator, Global};
+use std::alloc::{Allocator, Global};
 use std::io::Read;
 use std::sync::ledger::Ledger;
 
@@ -114,7 +115,7 @@ pub fn tell_session<'a, B: Allocator, R: Read, L: Ledger>(
 pub fn session_line<'a, B: Allocator>(
     heap: Global,
     bench: &mut Bench<'a, B>,
-) -> Result<Vec<u8>, AllocError>
+) -> Result<Vec<u8>, Oom>
     ensures text { IfOk result (λ text. text.items ≡ session_text bench.old) }
     ensures bench { bench.new ≡ bench.old }
 {

@@ -9,11 +9,12 @@ ghost use Rattle.recording_core.specs.Sessions.{data_of};
 ghost use Rattle.json_core.specs.declared.unread.Unread.TheVariants.{Shape};
 
 use bench_core::Event;
+use dots_core::Oom;
 use event_core::event_at;
 use json::Reader;
 use json_core::{Unread, value_of};
 use serde_json::Value;
-use std::alloc::{AllocError, Allocator, Global};
+use std::alloc::{Allocator, Global};
 
 /// How deep an item of the acts may nest: one level less than their array. The array may nest 126 levels, as a member
 /// of the outermost object (`MEMBER_DEPTH` in `draft`).
@@ -39,7 +40,7 @@ impl<'a, B: Allocator> Acts<&'a B> {
 
     /// Appends to `events` the event that the next value stands for, or sets `is_cut` if that value stands for none.
     /// Once `is_cut` is set, changes nothing.
-    fn add(&mut self, alloc: &'a B, value: &Value) -> Result<(), AllocError>
+    fn add(&mut self, alloc: &'a B, value: &Value) -> Result<(), Oom>
         ensures { OnOk result ((ds : List Data) → AreRead ds self.old.events.items self.old.is_cut
             → AreRead (ds ++ view value.now ∷ []) self.new.events.items self.new.is_cut) }
     {
@@ -48,7 +49,7 @@ impl<'a, B: Allocator> Acts<&'a B> {
         }
         match event_at(alloc, value) {
             Ok(event) => Ok(self.events.push(event)?),
-            Err(Unread::Memory) => Err(AllocError),
+            Err(Unread::Memory) => Err(Oom),
             Err(Unread::Shape) => {
                 self.is_cut = true;
                 Ok(())

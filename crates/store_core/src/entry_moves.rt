@@ -68,7 +68,7 @@ fn put_some<A: Allocator + Copy>(
     Ok(())
 }
 
-/// Takes out the entries at the dots of these handles. It takes no memory.
+/// Takes out the entries at the dots of these handles, as `take_out_each` does at dots. It takes no memory.
 pub(crate) fn discard_each<A: Allocator>(entries: &mut EntrySet<A>, handles: &[Handle<A>])
     ensures { entries.new.map ≡ without_each (dots_of_pairs (pairs handles.now)) entries.old.map }
 {

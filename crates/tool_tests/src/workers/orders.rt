@@ -298,7 +298,8 @@ fn asked_to_undo<'a>(heap: &'a Global, number: u64, rt: &impl Abort) -> Bench<'a
     bench
 }
 
-/// Whether the receipts of `left` agree with the history of its bench, if that of `before` is the one before the race.
+/// Whether the receipts of `left` agree with the history of its bench, with that of `before` taken as the history
+/// before the race.
 fn agrees_from<'a>(
     before: &mut Bench<'a, Global>,
     left: &Left<'a, Global>,
