@@ -1,4 +1,5 @@
--- The single changes of a run: one thing that the network could have done otherwise, or that a node could have noticed otherwise.
+-- The single changes of a run: a delivery is lost, is moved or comes again; a notice is never made, or is moved; or a
+-- send is moved.
 use Rattle.std.specs.Prelude.{ℕ, zero, suc, ◌+◌, ◌-◌, ◌==◌, ◌&&◌, ◌||◌, not, nat_lt, Bool, true, false, if◌then◌else◌, List, [], ◌∷◌, ◌++◌, length, slice_get, slice_range, Option, Some, None}
 use Rattle.std.specs.List.{flat_map, list_any}
 use Rattle.node_core.specs.Operations.{Operation, Deliver, Up, Down, Permdown, sends}
@@ -15,12 +16,12 @@ rank Before = 2
 rank Behind = 3
 rank Again = 4
 
--- whether the network does it: a delivery of a message
+-- whether a step is a delivery; an answer is none
 abbrev pub is_delivery : Operation → Bool
 is_delivery (Deliver sender number) = true
 is_delivery _ = false
 
--- whether a node notices it of another: that it is up, down or gone
+-- whether a step is a notice: an up, a down or a permanently down
 abbrev pub is_notice : Operation → Bool
 is_notice (Up name) = true
 is_notice (Down name) = true
@@ -48,7 +49,8 @@ may_at ks c None x = false
 may_at ks c (Some k) None = false
 may_at ks c (Some k) (Some x) = may ks c.kind c.place c.beside k x
 
--- whether the run has this change: the step is of the kind, and stands at the place, beside one of its own node
+-- whether the run has this change: there are steps at both of its places, and there is a change of its kind of the
+-- first beside the second
 unfoldable pub is_change : List Kept → Change → Bool
 is_change ks c = may_at ks c (slice_get ks c.place) (slice_get ks c.beside)
 
@@ -73,12 +75,14 @@ changed ks c = flat_map (piece ks) (pieces (length ks) c.kind c.place c.beside)
 
 -- All changes, in order: by step, by kind, the nearest first.
 
--- how far from a place a change can reach
+-- all distances from place i at which there can be a change of this kind, in a run of n steps, are smaller than this
+-- number
 abbrev pub reach : ℕ → Kind → ℕ → ℕ
 reach n Before i = i + 1
 reach n _ i = n - i
 
--- the place at this distance
+-- the place at distance d from place i: in front of it for a move before another step, and behind it for the other
+-- kinds
 abbrev pub off : Kind → ℕ → ℕ → ℕ
 off Before i d = i - d
 off _ i d = i + d

@@ -18,7 +18,8 @@ abbrev pub reached : Result Cluster Fault → Option Cluster
 reached (Ok c) = Some c
 reached (Err e) = None
 
--- what the steps lead to from empty nodes, if each is accepted, with the names and limits of the machine
+-- what the steps lead to from empty nodes, with the names and limits of the machine; or the fault of the first that is
+-- refused
 abbrev pub run_of : Machine → List Kept → Result Cluster Fault
 run_of m ks = runs (node_limits m.limits) (length m.names) ks
 
@@ -26,7 +27,7 @@ run_of m ks = runs (node_limits m.limits) (length m.names) ks
 unfoldable pub end_of : Machine → List Kept → Option Cluster
 end_of m ks = option_and_then (λ run. reached (run_of m run)) (order_of ks)
 
--- the rows at the end of a run of the nodes' steps with this change, if that is possible
+-- the rows that are asked for, at the end of a run of the nodes' steps with this change, if such a run is possible
 unfoldable pub rows_after : Machine → Question → Change → Option (List Row)
 rows_after m q c = option_map (rows_at q) (end_of m (changed m.state.remaining c))
 

@@ -17,7 +17,7 @@ pub record Known : Type 0 where
   pub places : List ℕ
   pub rows : List Row
 
--- two walks, the recorded run, and the last that was possible
+-- two walks, and what is known of the recorded run and of the last run that was possible
 pub record Search : Type 0 where
   pub here : Walk
   pub there : Walk
@@ -45,17 +45,19 @@ search_code =
 abbrev pub end_from : List Kept → Cluster → List ℕ → Option Cluster
 end_from ks first places = reached (then_runs (Ok first) (steps_in ks places))
 
--- each walk from some first cluster stays one
+-- the new walk is a walk from each first cluster that the old one is a walk from
 abbrev pub Stays : List Kept → Walk → Walk → Type 0
 Stays ks old new = (first : Cluster) → IsWalk ks first old → IsWalk ks first new
 
--- the steps at these places were asked of both walks; if the walks met, the steps lead both to one end
+-- both walks stay walks from their first clusters; and if they met, the steps at these places lead from both old walks'
+-- clusters to one end, or from neither to any
 pub record MeetsOn (ks : List Kept) (places : List ℕ) (here here_new there there_new : Walk) (met : Bool) : Type 0 where
   pub here_stays : Stays ks here here_new
   pub there_stays : Stays ks there there_new
   pub alike : met ≡ true → end_from ks here.cluster places ≡ end_from ks there.cluster places
 
--- two runs were played; if they met, they have one end
+-- both walks stay walks from their first clusters; and if they met, the two runs have one end or neither has any, from
+-- each first cluster that both old walks have
 pub record Meets (ks : List Kept) (run known : List ℕ) (here here_new there there_new : Walk) (met : Bool) : Type 0 where
   pub here_stays : Stays ks here here_new
   pub there_stays : Stays ks there there_new
@@ -65,12 +67,13 @@ abbrev pub known_of : Bool → Search → Known
 known_of true s = s.last
 known_of false s = s.recorded
 
--- the walks of a search
+-- both walks of the search are walks, each from some first cluster
 pub record AreWalks (ks : List Kept) (s : Search) : Type 0 where
   pub here : IsWalkOf ks s.here
   pub there : IsWalkOf ks s.there
 
--- a run was played beside known ones, which stay as they are; if one of them was found, the run has its end
+-- both walks stay walks from their first clusters, and the known runs stay as they are; if one of these was found, the
+-- run has the same end as it, or neither has any, from each first cluster that both old walks have
 pub record Finds (ks : List Kept) (run : List ℕ) (old new : Search) (found : Option Bool) : Type 0 where
   pub here_stays : Stays ks old.here new.here
   pub there_stays : Stays ks old.there new.there
@@ -83,7 +86,7 @@ pub record Finds (ks : List Kept) (run : List ℕ) (old new : Search) (found : O
 abbrev pub empty_of : Machine → Cluster
 empty_of m = opening_of (node_limits m.limits) (length m.names)
 
--- the rows are those at the end of the run
+-- each step of the known run is accepted, and its rows are those at the end of the run
 abbrev pub IsKnown : Machine → Question → List Kept → Known → Type 0
 IsKnown m q ks k = Some k.rows ≡ option_map (rows_at q) (end_from ks (empty_of m) k.places)
 
@@ -94,12 +97,13 @@ pub record IsSearch (m : Machine) (q : Question) (ks : List Kept) (s : Search) :
   pub recorded : IsKnown m q ks s.recorded
   pub last : IsKnown m q ks s.last
 
--- the rows are those at the end of the run, if each of its steps is accepted
+-- the rows are those at the end of the run, if each of its steps is accepted; and the new search keeps what each search
+-- keeps
 pub record AreRowsOf (m : Machine) (q : Question) (ks : List Kept) (run : List ℕ) (new : Search) (rows : Option (List Row)) : Type 0 where
   pub shown : rows ≡ option_map (rows_at q) (end_from ks (empty_of m) run)
   pub search : IsSearch m q ks new
 
--- the rows are those after a change
+-- the rows are those after the change, if it is possible; and the new search keeps what each search keeps
 pub record AreRowsAfter (m : Machine) (q : Question) (ks : List Kept) (c : Change) (new : Search) (rows : Option (List Row)) : Type 0 where
   pub shown : rows ≡ rows_after m q c
   pub search : IsSearch m q ks new

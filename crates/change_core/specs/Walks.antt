@@ -61,16 +61,18 @@ IsWalkOf ks w = (first : Cluster) × IsWalk ks first w
 abbrev pub IsSomeWalk : Walk → Type 0
 IsSomeWalk w = (ks : List Kept) × (first : Cluster) × IsWalk ks first w
 
--- each walk stays one, from the same first cluster
+-- over whatever steps and from whatever first cluster the old walk is a walk, the new one is a walk, too
 abbrev pub StaysWalk : Walk → Walk → Type 0
 StaysWalk old new = (ks : List Kept) (first : Cluster) → IsWalk ks first old → IsWalk ks first new
 
--- the step at a place was asked
+-- if the step at the place was taken, it leads from the old walk's cluster to the new one's, and else it is refused
+-- there; and the new walk is a walk from each first cluster that the old one is a walk from
 pub record Asks (ks : List Kept) (place : ℕ) (old new : Walk) (taken : Bool) : Type 0 where
   pub reached : reached (then_runs (Ok old.cluster) (with_step (slice_get ks place) [])) ≡ (if taken then Some new.cluster else None)
   pub stays : (first : Cluster) → IsWalk ks first old → IsWalk ks first new
 
--- the walk went to where the steps at these places lead, unless one was refused
+-- from each first cluster of the old walk, the steps at these places lead to the new walk's cluster if `taken` is true,
+-- and else one of them is refused; and the new walk is a walk from each of these first clusters
 pub record GoesTo (ks : List Kept) (places : List ℕ) (old new : Walk) (taken : Bool) : Type 0 where
   pub reached : (first : Cluster) → IsWalk ks first old → reached (then_runs (Ok first) (steps_in ks places)) ≡ (if taken then Some new.cluster else None)
   pub stays : (first : Cluster) → IsWalk ks first old → IsWalk ks first new

@@ -26,7 +26,7 @@ None >>= f = None
 abbrev pub kept_if : {A : Type 0} → Bool → A → Option A
 kept_if b x = if b then Some x else None
 
--- the number of a node or an actor
+-- the number of a node or an actor at place i of a list, if it is below 65,536
 abbrev pub node_in : ℕ → Data → Option ℕ
 node_in i d = option_and_then (λ n. kept_if (nat_lt n 65536) n) (number_in i d)
 
@@ -58,7 +58,8 @@ leave_all_at d = do
 abbrev pub number_of : Data → Option ℕ
 number_of d = option_and_then as_u64 (as_number d)
 
--- the set of these numbers: each is below `most_names` and above those before it, which end below `least`
+-- the set `names` with the numbers that the values are, if each value is one, at least `least`, below `most_names`, and above those
+-- before it
 abbrev pub names_from : ℕ → Names → Items → Option Names
 names_from least names no_items = Some names
 names_from least names (item d ds) = do

@@ -20,7 +20,7 @@ list ds = array (items_of ds)
 abbrev pub whole : ℕ → Data
 whole n = number (unsigned n)
 
--- the numbers in the set, among the next few from `first` on
+-- those of the next `count` numbers, from `first` on, that are in the set
 unfoldable pub numbers_from : Names → ℕ → ℕ → List ℕ
 numbers_from names first zero = []
 numbers_from names first (suc count) =

@@ -35,7 +35,8 @@ IsAction (Do operation) = IsOperation operation
 IsAction (Undo k) = Unit {0}
 IsAction (Back node) = nat_lt node 65536 ≡ true
 
--- the event's actor and the nodes that it names are numbers below 65,536, and its words are words
+-- the event's actor and the nodes that it names have numbers below 65,536, those of an extract below `most_names`; and its topics, keys
+-- and metadata are words
 abbrev pub IsEvent : Event → Type 0
 IsEvent e = (nat_lt e.actor 65536 ≡ true) × IsAction e.act
 

@@ -25,7 +25,7 @@ abbrev pub labelled_if : Texts → List ℕ → Option Kept → List ℕ
 labelled_if names label None = []
 labelled_if names label (Some k) = labelled names label k
 
--- the line of a step that remains
+-- the line of the step of this number, if it remains
 unfoldable pub step_line : Machine → List ℕ → ℕ → List ℕ
 step_line m label number = labelled_if m.names label (find_number m.state.remaining number)
 
@@ -64,7 +64,7 @@ dot_line names d = codes "dot " ++ name_at names d.name ++ codes " " ++ decimal 
 unfoldable pub left_text : Machine → Dot → Track → List ℕ
 left_text m d t = if has_left m d then step_line_if m (codes "left") (stand_at t.stands d.name).by else []
 
--- if the presence is live at the node and has left at its own: why the removal didn't come
+-- if the presence is live at the node and has left at its own node: why its removal didn't come
 unfoldable pub removal_text : Machine → ℕ → Dot → Track → List ℕ
 removal_text m node d t =
     if is_same (standing_at m node d) Live && has_left m d then finding_text m (codes "removal") (missing t.hops node Gone) else []
@@ -72,12 +72,13 @@ removal_text m node d t =
 unfoldable pub node_text : Machine → ℕ → Dot → Track → List ℕ
 node_text m node d t = finding_text m (codes "at " ++ name_at m.names node) (finding_of m node d t)
 
--- the last status step of the node about the presence's name
+-- the line of the node's last remaining step about the status of the dot's name, if there is one
 unfoldable pub status_text : Machine → ℕ → Dot → List ℕ
 status_text m node d = step_line_if m (codes "status") (last_status None m.state.remaining node d.name)
 
--- for a presence: the step that made it, its dot, the step by which it left, how it stands at the node, the status of its name
--- there, and, if it should have gone, why it didn't
+-- for a presence: the step that made it, its dot, the step by which it left at its own node, if it did, how it stands at this node, the
+-- last step of this node about the status of the dot's name, if there is one, and, if it left and is still live here, why the removal
+-- didn't come
 unfoldable pub tracked_text : Machine → ℕ → Making → Track → List ℕ
 tracked_text m node making t =
     step_line m (codes "made") making.number ++ dot_line m.names making.dot ++ left_text m making.dot t ++ node_text m node making.dot t ++

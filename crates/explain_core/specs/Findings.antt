@@ -34,7 +34,7 @@ abbrev pub is_forgotten : Kind → Bool
 is_forgotten kinds.Forgot = true
 is_forgotten _ = false
 
--- whether the step sent or delivered the dot, and is this one
+-- whether the hop's step sent or delivered the dot, and is the step that is looked for
 abbrev pub is_link : Option ℕ → Hop → Bool
 is_link target h = (is_sent h.kind || is_came h.kind) && is_number target h.number
 
@@ -50,8 +50,8 @@ unfoldable pub backwards : Back → List Hop → Back
 backwards back [] = back
 backwards back (h ∷ hops) = one_back (backwards back hops) h
 
--- the sends and deliveries that brought the dot to the step, in their order: the step itself comes last, before it the one that
--- it read, and so on
+-- the sends and deliveries that brought the dot to step `by`, in their order: that step comes last, if it sent or delivered the dot, before
+-- it the one that it read, if that did so, too, and so on
 abbrev pub chain : List Hop → Option ℕ → List ℕ
 chain hops by = reverse (backwards (by, []) hops).1
 
@@ -68,7 +68,8 @@ is_missed_at node wanted h = is_missed h.kind && is_of node wanted h
 abbrev pub is_sent_as : Standing → Hop → Bool
 is_sent_as wanted h = is_sent h.kind && is_same h.standing wanted
 
--- whether the step is of this kind, and is a reason why the dot doesn't stand as `wanted` at the node
+-- whether the step is a reason of this kind why the dot doesn't stand as `wanted` at the node: it forgot the dot, missed it, or sent it as
+-- `wanted`; the kind `Came` asks the same as `Sent`
 abbrev pub is_why : Kind → ℕ → Standing → Hop → Bool
 is_why kinds.Forgot node wanted h = is_forgotten_at node wanted h
 is_why kinds.Missed node wanted h = is_missed_at node wanted h
@@ -81,21 +82,23 @@ numbers_of test hops = map (λ h. h.number) (filter test hops)
 abbrev pub found : Verdict → List ℕ → Finding
 found verdict steps = record { verdict = verdict; steps = steps }
 
--- the first kind of reason for which there is a step
+-- undelivered with the steps that sent the dot, if there are any; else unsent
 abbrev pub sent_or_not : List ℕ → Finding
 sent_or_not [] = found Unsent []
 sent_or_not (n ∷ ns) = found Undelivered (n ∷ ns)
 
+-- missed with the steps that missed the dot, if there are any; else the other finding
 abbrev pub missed_or : List ℕ → Finding → Finding
 missed_or [] other = other
 missed_or (n ∷ ns) other = found Missed (n ∷ ns)
 
+-- forgotten with the steps that forgot the dot, if there are any; else the other finding
 abbrev pub forgotten_or : List ℕ → Finding → Finding
 forgotten_or [] other = other
 forgotten_or (n ∷ ns) other = found Forgotten (n ∷ ns)
 
--- why the dot doesn't stand as `wanted` at the node: it did and was forgotten; its deliveries were missed; it was sent, and no
--- step of the node delivered it; or it was never sent
+-- why the dot doesn't stand as `wanted` at the node, by the first of these that holds: it was forgotten there, where it stood so or above;
+-- it was missed there; it was sent so, which is told as undelivered; or it is unsent
 unfoldable pub missing : List Hop → ℕ → Standing → Finding
 missing hops node wanted =
     forgotten_or (numbers_of (is_forgotten_at node wanted) hops)
@@ -135,6 +138,6 @@ last_status o [] node name = o
 last_status o (k ∷ ks) node name =
     last_status (if (k.node == node) && is_status_of name k.step then Some k.number else o) ks node name
 
--- the last status step of the node about each of the first names, by number
+-- these are, for each of the first names, the number of the last status step of the node about that name, or none
 abbrev pub AreStatuses : List Kept → ℕ → List (Option ℕ) → Type 0
 AreStatuses ks node statuses = (name : ℕ) → name < length statuses → slice_get statuses name ≡ Some (last_status None ks node name)

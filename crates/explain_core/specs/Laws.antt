@@ -16,19 +16,20 @@ use Rattle.explain_core.specs.declared.hop.Kind.TheVariants.{Sent, Came, Missed,
 use Rattle.explain_core.specs.declared.standing.Standing.{Standing}
 use Rattle.explain_core.specs.declared.standing.Standing.TheVariants.{Unseen}
 
--- the step of this number sent or delivered the dot
+-- the hop is among these, and is of the step with this number, which sent or delivered the dot
 pub record Moves (hops : List Hop) (number : ℕ) (h : Hop) : Type 0 where
   pub among : Contains hops h
   pub is : h.number ≡ number
   pub moved : (is_sent h.kind || is_came h.kind) ≡ true
 
--- from the newest step back: the first is step `by`, each read what the next one made, and no step sent or delivered what the
--- last of them read
+-- from the newest step back: the first is step `by`, each sent or delivered the dot and read the next one, and what the last of them read,
+-- or `by` if there are none, is no step that sent or delivered the dot
 abbrev pub LeadsBack : List Hop → Option ℕ → List ℕ → Type 0
 LeadsBack hops by [] = (number : ℕ) (h : Hop) → by ≡ Some number → Moves hops number h → ⊥
 LeadsBack hops by (number ∷ numbers) = (by ≡ Some number) × ((h : Hop) × Moves hops number h × LeadsBack hops h.reads numbers)
 
--- the steps, in order, that brought the dot to step `by`: each sent or delivered it, and read what the one before it made
+-- the steps, in their order, that brought the dot to step `by`: each sent or delivered it, and read the one before it, as far back as there
+-- are such steps
 abbrev pub IsChain : List Hop → Option ℕ → List ℕ → Type 0
 IsChain hops by numbers = LeadsBack hops by (reverse numbers)
 
@@ -42,7 +43,8 @@ pub record IsSince (m : Machine) (node number : ℕ) : Type 0 where
   pub remains : find_number m.state.remaining number ≡ Some step
   pub own : step.node ≡ node
 
--- the dot stands at each node as the track says, and the step that the track names there is one of the node's that remains
+-- in a bench that calls lead to, the dot stands at each node as the track says, and the step that the track names there is one of the
+-- node's that remains
 abbrev pub StandingLaw : Type 0
 StandingLaw =
     (m : Machine) (d : Dot) (node : ℕ) → IsReached (config_of m) m.state →
@@ -51,7 +53,7 @@ StandingLaw =
       since : (number : ℕ) → (stand_at (track_of m d).stands node).by ≡ Some number → IsSince m node number;
     }
 
--- a delivery of a message in which the dot stands as the hop says, which read the step that sent the message
+-- step k delivered a message in which the dot stands as the hop says, and the hop read the remaining step that sent this message
 pub record IsDelivery (m : Machine) (d : Dot) (h : Hop) (k : Kept) : Type 0 where
   pub sender : ℕ
   pub message : ℕ
@@ -70,7 +72,7 @@ Did m d h k Came = IsDelivery m d h k
 Did m d h k Missed = IsDelivery m d h k
 Did m d h k Forgot = k.step ≡ Permdown d.name
 
--- a remaining step, and what it did
+-- the hop's step remains, is its node's own, and did what the hop says
 pub record IsOfStep (m : Machine) (d : Dot) (h : Hop) : Type 0 where
   pub step : Kept
   pub remains : find_number m.state.remaining h.number ≡ Some step
@@ -95,8 +97,8 @@ pub record IsUndelivered (m : Machine) (d : Dot) (node : ℕ) (wanted : Standing
   pub has : standing_sent m sender message d ≡ wanted
   pub undelivered : (k : Kept) → Contains m.state.remaining k → k.node ≡ node → k.step ≡ Deliver sender message → ⊥
 
--- if a dot doesn't stand as `wanted` at a node, and an explanation says that it was sent and not delivered, this is true of each
--- step that it names
+-- if a dot stands below `wanted` at a node, and an explanation says that it was sent so and not delivered, this is true of each step that
+-- the explanation names
 abbrev pub UndeliveredLaw : Type 0
 UndeliveredLaw =
     (m : Machine) (d : Dot) (node : ℕ) (wanted : Standing) → IsReached (config_of m) m.state → is_above wanted (standing_at m node d) ≡ true →

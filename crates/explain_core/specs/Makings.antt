@@ -21,7 +21,7 @@ abbrev pub dot_among : Option Node → ℕ → Presence → Option Dot
 dot_among None name p = None
 dot_among (Some node) name p = slice_get (dots_of name (is_tracked_as p.pid p.topic p.key) node.replica.store.entries) 0
 
--- the dot under which the node tracks the process, topic and key
+-- the dot under which the node tracks the presence's process, topic and key, if it does
 unfoldable pub tracked_dot : Machine → ℕ → Presence → Option Dot
 tracked_dot m node p = dot_among (node_of m node) node p
 
@@ -34,7 +34,7 @@ makes asked topic key k None = []
 makes asked topic key k (Some p) =
     if bytes_eq p.topic topic && bytes_eq p.key key then made_by k.number (tracked_dot asked k.node p) else []
 
--- what a step made, on the machine after it
+-- the presence of this topic and key that a step made, if it made one, on the machine after the step
 unfoldable pub making_of : Machine → List ℕ → List ℕ → Kept → List Making
 making_of asked topic key k = makes asked topic key k (tracked_by k.step)
 
@@ -43,6 +43,6 @@ makings_from topic key asked [] = []
 makings_from topic key asked (k ∷ ks) =
     making_of (after_step asked k) topic key k ++ makings_from topic key (after_step asked k) ks
 
--- what all steps made, in their order
+-- the presences of this topic and key that the remaining steps made, in the order of these steps
 unfoldable pub makings_of : Machine → List ℕ → List ℕ → List Making
 makings_of m topic key = makings_from topic key (opened m) m.state.remaining

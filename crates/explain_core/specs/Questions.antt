@@ -14,7 +14,7 @@ abbrev pub fault_of_word : WordFault → AskFault
 fault_of_word words.BadWord = faults.NoWord
 fault_of_word words.OutOfMemory = faults.OutOfMemory
 
--- the text is the explanation at the node of this name
+-- the text is the explanation of the topic and key at the node that the question names
 pub record IsExplanation (m : Machine) (question : Question) (text : List ℕ) : Type 0 where
   pub node : ℕ
   pub named : number_in m.names question.node.now ≡ Some node

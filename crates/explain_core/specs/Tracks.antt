@@ -49,14 +49,14 @@ sent_hop k before message Unseen = None
 sent_hop k before message Live = Some (hop_of k Sent Live message before.by)
 sent_hop k before message Gone = Some (hop_of k Sent Gone message before.by)
 
--- what a delivery did, of a message that step `reads` sent, by how the dot stands after it: the dot came, or was missed, or
--- nothing happened to it
+-- what a delivery did, of a message that step `reads` sent: if the dot stands otherwise after it than before, the dot came; if it stands as
+-- before, and below what the message tells, it was missed; else nothing
 abbrev pub delivered_hop : Kept → Stand → Standing → Standing → Option ℕ → Option Hop
 delivered_hop k before told now reads =
     if is_same before.standing now then (if is_above told now then Some (hop_of k Missed told 0 reads) else None)
     else Some (hop_of k Came now 0 reads)
 
--- what another step did: it forgot the dot, if it stood there before
+-- what another step did: it forgot the dot, if the dot was live or gone before the step and is unseen after it; else nothing
 abbrev pub other_hop : Kept → Stand → Standing → Option Hop
 other_hop k before now = if is_same now Unseen && is_above before.standing Unseen then Some (hop_of k Forgot before.standing 0 before.by) else None
 
@@ -74,7 +74,7 @@ abbrev pub with_hop : List Hop → Option Hop → List Hop
 with_hop hops None = hops
 with_hop hops (Some h) = hops ++ h ∷ []
 
--- the node's standing, which dates from this step if it is another than before
+-- the stands after step k: at its node the dot stands as `now`, since this step if it stood otherwise before; the others stay
 abbrev pub with_stand : List Stand → Kept → Standing → List Stand
 with_stand stands k now =
     if is_same (stand_at stands k.node).standing now then stands else slice_set stands k.node (record { standing = now; by = Some k.number })
@@ -105,12 +105,12 @@ no_track nodes = record { stands = replicate nodes never_seen; hops = [] }
 unfoldable pub track_of : Machine → Dot → Track
 track_of m d = track_from d (opened m) m.state.remaining (no_track (length m.names))
 
--- whether a step reaches a dot, on the machine after it: it sent or delivered a message with the dot, changed what its own node tracks, or
--- took the dot's name permanently down
-
+-- whether message p of the node has the dot, live or gone
 abbrev pub is_told : Machine → ℕ → ℕ → Dot → Bool
 is_told asked node p d = not (is_same (standing_sent asked node p d) Unseen)
 
+-- whether the step is a join, a leave, a leave all or an update, and `name` is that of its node; or whether it takes `name` permanently
+-- down
 abbrev pub is_changed : Operation → ℕ → ℕ → Bool
 is_changed (Join p) node name = name == node
 is_changed (Leave pid topic key) node name = name == node
@@ -123,5 +123,8 @@ abbrev pub reaches_by : Machine → Kept → Dot → Option (ℕ × ℕ) → Boo
 reaches_by asked k d None = is_changed k.step k.node d.name
 reaches_by asked k d (Some m) = is_told asked m.0 m.1 d
 
+-- whether a step reaches a dot, on the machine after it: the message that the step sent has the dot; or, of a step that sends none, the
+-- message that it delivered has it; or, of a step with neither, it is a join, a leave, a leave all or an update of the node with the dot's
+-- name, or took that name permanently down
 unfoldable pub reaches : Machine → Kept → Dot → Bool
 reaches asked k d = if sends k.step then is_told asked k.node (last_message asked k.node) d else reaches_by asked k d (delivers k.step)

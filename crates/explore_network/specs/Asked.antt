@@ -15,7 +15,7 @@ use Rattle.explore_network.specs.Plans.{Wants}
 use Rattle.explore_network.specs.Questions.{Question}
 use Rattle.network_rules.specs.Tables.{is_wanted}
 
--- the dot that a node's next entry gets; none if there is no node
+-- the node's fresh dot; none if there is no node
 abbrev pub fresh_of : Option Node → List Dot
 fresh_of None = []
 fresh_of (Some x) = fresh x.replica ∷ []
@@ -34,12 +34,12 @@ abbrev pub own_of : Option Node → List Dot
 own_of None = []
 own_of (Some x) = dots_up_to (last x.replica).name (last x.replica).clock
 
--- the own dots that the first `count` nodes have seen
+-- the own dots that each of the first nodes has seen
 unfoldable pub own_of_all : Cluster → ℕ → List Dot
 own_of_all c zero = []
 own_of_all c (suc n) = own_of_all c n ++ own_of (slice_get c n)
 
--- if the steps are accepted, these are all dots that the question is about
+-- if the steps are accepted, all dots that the question is about are among these; and each of these has a name below 32
 pub record AreAsked (l : NodeLimits) (count : ℕ) (steps : List Kept) (q : Question) (dots : List Dot) : Type 0 where
   pub names : AllByRecursion (λ (d : Dot). d.name < most_names) dots
   pub wants : (end : Cluster) → runs l count steps ≡ Ok end → Wants l steps count (is_wanted dots) q

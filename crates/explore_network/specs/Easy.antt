@@ -9,12 +9,12 @@ use Rattle.network_rules.specs.Turns.{delivery_of, AreSpent}
 
 -- the walk misses no outcome if it goes on with this step alone: for one of two reasons
 pub data GoesFirst (p : Plan) (counts : List ℕ) (c : Cluster) (k : Kept) (x : Rank) : Type 0 where
-  -- the step is no delivery, and is easy, or nothing more is delivered at its node
+  -- the step is no delivery; and it is easy, or nothing more is delivered at its node
   IsOwnStep : delivery_of k.step ≡ None → IsEasyAt c k.node k.step ⊎ AreSpent p.turns counts p.again k.node → GoesFirst p counts c k x
   -- the step is a delivery that brings nothing which matters, and came less often than it was recorded
   IsIdleStep : (m : ℕ × ℕ) → delivery_of k.step ≡ Some m → IsIdleAt c p.tables p.turns counts k.node x.turn m.0 m.1 → GoesFirst p counts c k x
 
--- the walk misses no outcome if it goes on with the step at this place alone, for one of these reasons
+-- the walk misses no outcome if it goes on with the step at this place alone, for one of the reasons of `GoesFirst`
 pub record CanGoFirst (p : Plan) (counts : List ℕ) (c : Cluster) (place : ℕ) : Type 0 where
   pub step : Kept
   pub rank : Rank

@@ -29,7 +29,8 @@ abbrev pub MissesNothing : Machine → Question → ℕ → ℕ → List Outcome
 MissesNothing m q lost again os = (run : List Kept) (end : Cluster) → CanLeadTo m lost again run end →
     IsAny (λ (o : Outcome). shown q o.cluster ≡ shown q end) os
 
--- each outcome has a run beside it, by the places of its steps, that the network could have made
+-- each outcome has the places of the steps of a run that the network could have made, and the cluster to which that run
+-- leads
 abbrev pub InventsNothing : Machine → ℕ → ℕ → List Outcome → Type 0
 InventsNothing m lost again os = AllByRecursion (λ (o : Outcome). CanLeadTo m lost again (steps_at m.state.remaining o.run) o.cluster) os
 
@@ -38,20 +39,21 @@ abbrev pub AreDistinct : Question → List Outcome → Type 0
 AreDistinct q [] = Unit {0}
 AreDistinct q (o ∷ os) = AllByRecursion (λ (x : Outcome). shown q o.cluster ≢ shown q x.cluster) os × AreDistinct q os
 
--- the first outcome is that of the recorded run
+-- there is a first outcome, and its run is the recorded run
 abbrev pub BeginsAsRecorded : Machine → List Outcome → Type 0
 BeginsAsRecorded m [] = ⊥
 BeginsAsRecorded m (o ∷ os) = steps_at m.state.remaining o.run ≡ m.state.remaining
 
--- whether a step makes a presence of this topic and key
+-- whether there is a presence, and it is of this topic and key
 abbrev pub is_asked_of : List ℕ → List ℕ → Option Presence → Bool
 is_asked_of topic key None = false
 is_asked_of topic key (Some p) = bytes_eq p.topic topic && bytes_eq p.key key
 
+-- whether a step makes a presence of this topic and key
 abbrev pub is_asked : List ℕ → List ℕ → Operation → Bool
 is_asked topic key s = is_asked_of topic key (presence_made s)
 
--- a beginning of a run of the network that leads on to a whole run, each of its steps accepted
+-- `run` is a beginning of a run of the network, and each step of this beginning is accepted
 pub record CanBegin (m : Machine) (lost again : ℕ) (run : List Kept) : Type 0 where
   pub rest : List Kept
   pub goes_on : IsNetworkRun m.state.remaining lost again (run ++ rest)
@@ -62,7 +64,7 @@ pub record AreOfOneState (m : Machine) (run other : List Kept) : Type 0 where
   pub steps : HaveSame run other
   pub cluster : runs (node_limits m.limits) (length m.names) run ≡ runs (node_limits m.limits) (length m.names) other
 
--- no two of these, by the places of their steps, are of one state
+-- each list has the places of the steps of a beginning, and no two of these beginnings are of one state
 abbrev pub AreOfDifferentStates : Machine → List (List ℕ) → Type 0
 AreOfDifferentStates m [] = Unit {0}
 AreOfDifferentStates m (x ∷ xs) =

@@ -14,7 +14,7 @@ count_of t ks = length (filter (is_of t) ks)
 abbrev pub counts_of : List Turn → List Kept → List ℕ
 counts_of ts ks = map (λ t. count_of t ks) ts
 
--- the turn of a node's own steps, or of the deliveries of a message at the node, with how many of these steps belong to
+-- the turn of a node's own steps, or of the deliveries of a message at the node, and how many of the steps j belong to
 -- it
 abbrev pub turn_of : List Kept → ℕ → Option (ℕ × ℕ) → Turn
 turn_of j node delivers = record { node = node; delivers = delivers; recorded = count_of (record { node = node; delivers = delivers; recorded = 0 }) j }
@@ -23,7 +23,7 @@ turn_of j node delivers = record { node = node; delivers = delivers; recorded = 
 abbrev pub named : Kept → Turn
 named k = record { node = k.node; delivers = delivery_of k.step; recorded = 0 }
 
--- the turns of own steps, one for each of the first `count` nodes
+-- the turns of own steps, one for each of the first nodes
 abbrev pub own_turns : List Kept → ℕ → List Turn
 own_turns j zero = []
 own_turns j (suc n) = own_turns j n ++ turn_of j n None ∷ []
@@ -49,7 +49,7 @@ abbrev pub turns_of : List Kept → ℕ → List Turn
 turns_of j count = noted_all j (own_turns j count) j
 
 -- the rank of step k after the steps `done`: the place of its turn, how many steps of that turn stand before it, and
--- the number of the message that it sends, if it sends one
+-- the number of the message that it sends, or else that of its node's next message
 abbrev pub rank_of : List Turn → List Kept → Kept → Rank
 rank_of ts done k = record { turn = unwrap_or (place_of ts k) 0; before = count_of (named k) done; number = suc (length (sent_by done k.node)) }
 

@@ -47,8 +47,8 @@ pub record IsWithin (p : Plan) (w : List Kept) : Type 0 where
   pub again : extra p.turns (counts_of p.turns w) 0 ≤ p.again
   pub twice : AllByRecursion (λ (t : Turn). count_of t w - t.recorded ≤ t.recorded) p.turns
 
--- after the steps w the cluster and the counts of the turns are these; w are recorded steps, of each node the first of
--- its own ones; and no delivery came too often
+-- the steps w lead to this cluster, and these are the counts of the turns in w; w has recorded steps alone, of each
+-- node's own steps the first ones, in their order; and no delivery came too often
 pub record IsAt (p : Plan) (w : List Kept) (counts : List ℕ) (c : Cluster) : Type 0 where
   pub ran : runs p.limits p.count w ≡ Ok c
   pub counted : counts ≡ counts_of p.turns w
@@ -60,7 +60,8 @@ pub record IsAt (p : Plan) (w : List Kept) (counts : List ℕ) (c : Cluster) : T
 abbrev pub IsTold : Plan → Question → List Outcome → List Kept → Type 0
 IsTold p q os w = IsSettled (walk_of p (told_by q os)) w
 
--- the walk can take step k at once: if the beginning with k is settled, so is w, whatever outcomes were found
+-- the walk can take step k at once: if k is accepted after w, and w with k is settled, then w is settled, whatever
+-- outcomes were found
 abbrev pub CanBeFirst : Plan → List Kept → Cluster → Kept → Type 0
 CanBeFirst p w c k =
     (told : Cluster → Bool) (d : Cluster) → IsWalk (walk_of p told) → step c k.node k.step ≡ Ok d →
@@ -120,12 +121,12 @@ abbrev pub HasReason : Plan → Question → Stop → Type 0
 HasReason p q (TooManyStates n) = IsTooMany p q n
 HasReason p q OutOfMemory = Unit {0}
 
--- there are these outcomes, and perhaps more
+-- the outcomes `more` are the outcomes `os`, and perhaps others after these
 abbrev pub AreMore : List Outcome → List Outcome → Type 0
 AreMore os more = (rest : List Outcome) × (more ≡ os ++ rest)
 
 -- what came of going on with the step at a place: if the step is accepted, all outcomes of runs that begin with w and
--- it were found; and `did` is true only if it was accepted
+-- then this step were found; and `did` is true only if the step was accepted
 pub record GoesThrough (p : Plan) (q : Question) (w : List Kept) (c : Cluster) (place : ℕ) (did : Bool) (os : List Outcome) : Type 0 where
   pub told : (k : Kept) (d : Cluster) → slice_get p.steps place ≡ Some k → step c k.node k.step ≡ Ok d → IsTold p q os (w ++ k ∷ [])
   pub taken : did ≡ true → (k : Kept) × ((d : Cluster) × ((slice_get p.steps place ≡ Some k) × (step c k.node k.step ≡ Ok d)))

@@ -15,7 +15,7 @@ named m Cluster = Some OfCluster
 named m (Node name) = option_map OfNode (number_in m.names name.now)
 named m (Presence node topic key) = option_map (λ n. OfPresence n topic.now key.now) (number_in m.names node.now)
 
--- whether topic and key are words
+-- whether the topic and the key are words; true if the question has none
 abbrev pub are_words : About → Bool
 are_words Cluster = true
 are_words (Node name) = true

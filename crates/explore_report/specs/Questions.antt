@@ -14,20 +14,21 @@ use Rattle.explore_report.specs.declared.question.Question.{Question}
 use Rattle.explore_report.specs.declared.report_fault.ReportFault.{ReportFault}
 use Rattle.explore_report.specs.declared.report_fault.ReportFault.TheVariants as faults
 
--- these are the outcomes of what the network could have made of a machine's remaining steps: each run of the network leads to one, each has
--- such a run, no two are alike, and the first is the recorded run's
+-- the list has the outcomes of a machine's remaining steps: each run of the network leads to what one of them shows,
+-- each has such a run beside it, no two show the same, and the first is the recorded run's
 pub record AreOutcomes (m : Machine) (q : Plain) (lost again : ℕ) (os : List Outcome) : Type 0 where
   pub misses_nothing : MissesNothing m q lost again os
   pub invents_nothing : InventsNothing m lost again os
   pub distinct : AreDistinct q os
   pub first : BeginsAsRecorded m os
 
--- these are the outcomes that the question asks for
+-- the list has the outcomes that the question asks for
 pub record HasOutcomes (m : Machine) (question : Question) (q : Plain) (os : List Outcome) : Type 0 where
   pub asks : Asks m question.about q
   pub outcomes : AreOutcomes m q question.lost question.again os
 
--- the text tells these outcomes
+-- the text tells the outcomes that the question asks for, and some number of states, which is no greater than may be
+-- kept
 pub record TellsOutcomes (m : Machine) (question : Question) (text : List ℕ) : Type 0 where
   pub q : Plain
   pub outcomes : List Outcome

@@ -28,7 +28,7 @@ use Rattle.grammar_core.specs.declared.keyword.Verb.TheVariants as verbs
 
 -- words with a meaning of their own
 
--- a first word that is no actor's name
+-- the keyword that a word is, if it is one: keywords begin lines, and are no names of actors
 unfoldable pub keyword_of : List ℕ → Option Keyword
 keyword_of word =
     if bytes_eq word (codes "nodes") then Some keywords.Nodes
@@ -39,7 +39,7 @@ keyword_of word =
     else (if bytes_eq word (codes "journal") then Some keywords.Journal
     else None)))))
 
--- the second word of an actor's line
+-- the verb that a word is, if it is one: the second word of an actor's line
 unfoldable pub verb_of : List ℕ → Option Verb
 verb_of word =
     if bytes_eq word (codes "join") then Some verbs.Join
@@ -59,7 +59,7 @@ verb_of word =
     else (if bytes_eq word (codes "unwind") then Some verbs.Unwind
     else None))))))))))))))
 
--- whether the verb is one of a console
+-- whether a console may use the verb, as nodes may
 abbrev pub is_for_consoles : Verb → Bool
 is_for_consoles verbs.Undo = true
 is_for_consoles verbs.Back = true
@@ -73,7 +73,7 @@ or_fault kind (Some value) = Ok value
 
 -- who may act
 
--- the fault of names as a fault of their line
+-- a fault of names, as a fault of the line that gives them
 abbrev pub kind_of : NamesFault → FaultKind
 kind_of names_faults.WrongCount = WrongCount
 kind_of (names_faults.BadName at) = BadName
@@ -84,21 +84,21 @@ abbrev pub of_names : Result Texts NamesFault → Result Texts FaultKind
 of_names (Ok names) = Ok names
 of_names (Err fault) = Err (kind_of fault)
 
--- the word, or, where it is reserved, the empty text, which is no name either
+-- the word; or, if it is a keyword, the empty text, which is no name
 unfoldable pub unreserved : List ℕ → List ℕ
 unreserved word = if is_some (keyword_of word) then [] else word
 
--- the names of a `nodes` line: 1 to 32 names, and a reserved word is none
+-- the names of a `nodes` line, 1 to 32, of which none stands twice and none is a keyword; or their fault
 unfoldable pub node_names : Texts → Result Texts FaultKind
 node_names words = of_names (names_of (map unreserved words))
 
--- the first significant line: `nodes NAME ..`
+-- who may act after the first significant line, which is `nodes NAME ..`; or the line's fault
 unfoldable pub opening : List ℕ → Texts → Result Cast FaultKind
 opening first names =
     if not (bytes_eq first (codes "nodes")) then Err NoNodes
     else (node_names names >>= λ nodes. Ok (record { nodes = nodes; consoles = [] }))
 
--- the consoles with one more, whose name no node and no console has
+-- the consoles with one more, whose name is no keyword and no node's or console's; or the fault of that name
 unfoldable pub with_console : Texts → Texts → List ℕ → Result Texts FaultKind
 with_console nodes consoles name =
     if not (is_name name) || is_some (keyword_of name) then Err BadName
@@ -111,7 +111,7 @@ with_each nodes consoles (name ∷ names) = do
   more ← with_console nodes consoles name
   with_each nodes more names
 
--- `consoles NAME ..`: 1 to `most_consoles`, once
+-- who may act after `consoles NAME ..` with 1 to `most_consoles` names, if no console was named before; or the line's fault
 unfoldable pub with_consoles : Cast → Texts → Result Cast FaultKind
 with_consoles cast names =
     if not (length cast.consoles == 0) then Err Twice
@@ -160,11 +160,12 @@ unfoldable pub leave_of : Texts → Result Operation FaultKind
 leave_of (pid ∷ topic ∷ key ∷ []) = leave_with pid topic key
 leave_of _ = Err WrongCount
 
--- one number, and one node's name
+-- the number that the only word is
 unfoldable pub one_number : Texts → Result ℕ FaultKind
 one_number (number ∷ []) = number_at number
 one_number _ = Err WrongCount
 
+-- the node that the only word names
 unfoldable pub one_node : Texts → Texts → Result ℕ FaultKind
 one_node nodes (name ∷ []) = node_at nodes name
 one_node nodes _ = Err WrongCount
@@ -181,16 +182,17 @@ down_of nodes args = one_node nodes args >>= λ name. Ok (Down name)
 unfoldable pub permdown_of : Texts → Texts → Result Operation FaultKind
 permdown_of nodes args = one_node nodes args >>= λ name. Ok (Permdown name)
 
--- no arguments
+-- a broadcast, which has no arguments
 unfoldable pub broadcast_of : Texts → Result Operation FaultKind
 broadcast_of [] = Ok Broadcast
 broadcast_of (word ∷ words) = Err WrongCount
 
+-- a request, which has no arguments
 unfoldable pub request_of : Texts → Result Operation FaultKind
 request_of [] = Ok Request
 request_of (word ∷ words) = Err WrongCount
 
--- the nodes of an `extract`, each once
+-- the nodes of an `extract` with the one of this name, which is not among them; or the fault of that name
 unfoldable pub with_node : Texts → Names → List ℕ → Result Names FaultKind
 with_node nodes chosen name = do
   node ← node_at nodes name
@@ -226,7 +228,7 @@ answer_of nodes args = one_message nodes args >>= λ message. Ok (Answer message
 
 -- commands
 
--- a step of a node
+-- the call by which a node asks for the step; or the fault
 abbrev pub does : ℕ → Result Operation FaultKind → Result Command FaultKind
 does node step = step >>= λ step. Ok (Call node (Do step))
 
@@ -247,7 +249,7 @@ verb_line nodes actor verbs.Undo args = one_number args >>= λ number. Ok (Call 
 verb_line nodes actor verbs.Back args = one_node nodes args >>= λ node. Ok (Call actor (Back node))
 verb_line nodes actor verbs.Unwind args = one_number args >>= λ number. Ok (Unwind actor number)
 
--- an actor's line, after its first word
+-- the command of an actor's line, by what stands behind its first word; or the line's fault
 unfoldable pub actor_line : Cast → ℕ → Texts → Result Command FaultKind
 actor_line cast actor [] = Err WrongCount
 actor_line cast actor (verb ∷ args) = do
@@ -258,7 +260,7 @@ unfoldable pub journal_of : Texts → Result Command FaultKind
 journal_of [] = Ok Journal
 journal_of (word ∷ words) = Err WrongCount
 
--- a line after the opening that isn't `consoles`
+-- the command of a line behind the first significant one, other than a `consoles` line; or the line's fault
 unfoldable pub command_by : Option Keyword → Cast → List ℕ → Texts → Result Command FaultKind
 command_by (Some keywords.Nodes) cast first rest = Err Twice
 command_by (Some keywords.Consoles) cast first rest = Err Twice
@@ -277,7 +279,7 @@ pub record Reading : Type 0 where
   pub cast : Option Cast
   pub lines : List Line
 
--- a significant line
+-- what has been read after one more significant line; or the line's fault
 unfoldable pub with_words_by : Option Cast → List Line → ℕ → List ℕ → Texts → Result Reading FaultKind
 with_words_by None lines number first rest = opening first rest >>= λ cast. Ok (record { cast = Some cast; lines = lines })
 with_words_by (Some cast) lines number first rest =
@@ -285,20 +287,21 @@ with_words_by (Some cast) lines number first rest =
     else (command_by (keyword_of first) cast first rest >>=
     λ command. Ok (record { cast = Some cast; lines = lines ++ record { number = number; command = command } ∷ [] }))
 
--- a line without words and a comment change nothing
+-- a line without words changes nothing, and neither does a comment, which begins with `#`; all other lines are significant
 unfoldable pub with_words : Reading → ℕ → Texts → Result Reading FaultKind
 with_words reading number [] = Ok reading
 with_words reading number (first ∷ rest) =
     if slice_index first 0 == 35 then Ok reading else with_words_by reading.cast reading.lines number first rest
 
--- the words of a line, where it is text
+-- the words of a line, if the line is text
 abbrev pub text_words : List ℕ → Result Texts FaultKind
 text_words line = if not (is_text line) then Err NotText else Ok (words_of line)
 
--- the most bytes of a line without its line feed, and of a script
+-- the most bytes that a line may have, without its line feed
 abbrev pub longest_line : ℕ
 longest_line = 4096
 
+-- the most bytes that a script may have
 abbrev pub longest_script : ℕ
 longest_script = 1048576
 
@@ -323,7 +326,7 @@ abbrev pub finished : Option Cast → List Line → Result Script ScriptFault
 finished None lines = Err (record { line = 0; kind = NoNodes })
 finished (Some cast) lines = Ok (record { cast = cast; lines = lines })
 
--- the script that the bytes spell, or its first fault
+-- the script that is read from the bytes, or its first fault
 unfoldable pub script_of : List ℕ → Result Script ScriptFault
 script_of bytes =
     if nat_lt longest_script (length bytes) then Err (record { line = 0; kind = TooLong })
@@ -331,7 +334,7 @@ script_of bytes =
 
 -- the act lines of a script
 
--- the act of a line, if the line asks one
+-- the actor and the act of a line; `NotAllowed` at the line if it asks no act
 abbrev pub call_of : Line → Result (ℕ × Action) ScriptFault
 call_of line = by line.number line.command
   where
@@ -339,7 +342,7 @@ call_of line = by line.number line.command
     by number (Call actor act) = Ok (actor, act)
     by number _ = Err (record { line = number; kind = NotAllowed })
 
--- these acts and those of the lines, or the first line that is no act
+-- these calls, and after them those of the lines; or the fault at the first line that asks no act
 unfoldable pub with_calls : List (ℕ × Action) → List Line → Result (List (ℕ × Action)) ScriptFault
 with_calls calls [] = Ok calls
 with_calls calls (line ∷ lines) = do

@@ -7,8 +7,8 @@ use Rattle.grammar_core.specs.declared.command.Command.TheVariants as commands
 use Rattle.grammar_core.specs.declared.script.Line.{Line as DeclaredLine}
 use Rattle.grammar_core.specs.declared.script.Script.{Script as DeclaredScript}
 
--- an act of an actor; the undo of a step with all that follows from it; the online list of a node; the statuses, clocks and
--- clouds at a node; the future of a step; the kept steps
+-- what a line asks for: an act of an actor; the undo of a step with all that follows from it; the online list of a node; the statuses,
+-- clocks and clouds at a node; the future of a step; the kept steps
 pub data Command : Type 0 where
   Call : (actor : ℕ) (act : Action) → Command
   Unwind : (actor number : ℕ) → Command

@@ -16,12 +16,13 @@ use Rattle.hint_core.specs.LineWords.{few_words, word_at, is_begun, is_node, is_
 use Rattle.hint_core.specs.Forms.{form}
 use Rattle.hint_core.specs.Sessions.{begins_object, is_blank, is_marked}
 
--- a hint about a word, if there is one
+-- a hint about a word; none if the word is empty
 abbrev pub about : List ℕ → List ℕ → List ℕ → Option Hint
 about before word after = if length word == 0 then None else Some (About before word after)
 
--- NotText: the first byte of the line that can't be in a text
+-- NotText: the hint is about the line's first byte that can't be in a text; or about a byte order mark with which the input begins
 
+-- whether a text may have the byte
 abbrev pub is_text_byte : ℕ → Bool
 is_text_byte byte = nat_le 32 byte && nat_le byte 126
 
@@ -33,7 +34,7 @@ byte_text byte =
     else (if nat_lt byte 128 then codes ", a control character; words have none"
     else codes ", beyond ASCII; words may spell such bytes, as `%C3%BC` does"))
 
--- the hint for the first byte that can't be in a text, from this place on
+-- the hint for the first of these bytes that can't be in a text, if there is one; `place` is that of the first of them in the line
 abbrev pub byte_from : ℕ → List ℕ → Option Hint
 byte_from place [] = None
 byte_from place (byte ∷ bytes) = if is_text_byte byte then byte_from (place + 1) bytes else Some (Byte place byte (byte_text byte))
@@ -43,33 +44,37 @@ not_text number line =
     if (number == 1) && is_marked line then Some (Plain (codes "the input begins with a byte order mark; save it without one"))
     else byte_from 1 line
 
--- TooLong: the line; or its first topic, key or metadata that is too long
+-- TooLong: the hint is about the line, if that is too long; or else about the first word behind its third that is: a topic, a key or
+-- metadata
 unfoldable pub too_long : List ℕ → Texts → Option Hint
 too_long line words =
     if nat_lt longest_line (length line) then Some (Plain (codes "a line has at most 4096 bytes"))
     else about [] (unwrap_or (find (λ word. nat_lt longest_word (length word)) (drop 3 words)) []) (codes " has more than 200 bytes, too many for a word")
 
--- NoNodes: the line's first word
+-- NoNodes: the hint is about the line's first word
 unfoldable pub no_nodes : Texts → Option Hint
 no_nodes words = about (codes "the first line is `nodes NAME ..`, and not ") (word_at words 0) (codes " ..")
 
--- Twice: the line; or the first word that was given before, in the line or as the name of a node
+-- whether a line with this first word names nodes or consoles
 abbrev pub names_actors : List ℕ → Bool
 names_actors first = bytes_eq first (codes "nodes") || bytes_eq first (codes "consoles")
 
 abbrev pub again : List ℕ → Option Hint
 again word = about [] word (codes " was named before; each name stands once")
 
+-- Twice: the hint is about the line, if it is a second `nodes` or `consoles` line; or else about its first name that the line has before,
+-- or, in these two kinds of line, that a node has already
 unfoldable pub twice : Texts → Texts → Option Hint
 twice lines words =
     if not (names_actors (word_at words 0)) then again (first_again [] [] (drop 2 words))
     else (if is_begun (word_at words 0) lines then about (codes "a line ") (word_at words 0) (codes " stands before this one, and names them all")
     else again (first_again lines [] (drop 1 words)))
 
--- UnknownWord: the line's verb, if somebody has its first word as a name; else its first word
+-- whether the verb is one that a console may use
 abbrev pub is_console_verb : List ℕ → Bool
 is_console_verb verb = bytes_eq verb (codes "undo") || bytes_eq verb (codes "back") || bytes_eq verb (codes "unwind")
 
+-- UnknownWord: the hint is about the line's verb, if a node or a console has the line's first word as its name; else about that word
 unfoldable pub unknown_word : Texts → Texts → Option Hint
 unknown_word lines words =
     if is_node lines (word_at words 0) || is_console lines (word_at words 0) then
@@ -78,32 +83,34 @@ unknown_word lines words =
     about (codes "nobody is named ") (word_at words 0) (codes "; a line `consoles NAME ..` names consoles")
     else about (codes "nobody is named ") (word_at words 0) (codes "; the line `nodes` names the nodes"))
 
--- WrongCount: the form of the line
+-- WrongCount: the hint is the form of the line
 unfoldable pub wrong_count : Texts → Option Hint
 wrong_count words = Some (Plain (form (word_at words 0) (word_at words 1)))
 
--- NotAllowed: a line that is no act where only acts are taken, or a console's verb
+-- NotAllowed: the hint is about the first word or the verb of a line that is no act, where only acts are taken; or about a verb that
+-- consoles may not use
 unfoldable pub not_allowed : Texts → Option Hint
 not_allowed words =
     if is_some (keyword_of (word_at words 0)) then about (codes "only act lines are taken here, and ") (word_at words 0) (codes " is none")
     else (if bytes_eq (word_at words 1) (codes "unwind") then about (codes "only act lines are taken here, and ") (word_at words 1) (codes " is none")
     else about [] (word_at words 1) (codes " is for nodes; a console may undo, go back and unwind"))
 
--- BadNumber: the word at the place of the line's number
+-- the place, counted from 0, of the number in a line with this first word and this verb
 abbrev pub number_place : List ℕ → List ℕ → ℕ
 number_place first verb =
     if bytes_eq first (codes "why") then 1
     else (if bytes_eq verb (codes "deliver") || bytes_eq verb (codes "answer") then 3 else 2)
 
+-- BadNumber: the hint is about the word at the place of the line's number
 unfoldable pub bad_number : Texts → Option Hint
 bad_number words =
     about [] (word_at words (number_place (word_at words 0) (word_at words 1))) (codes " is no number of at most 18446744073709551615, as 0 or 17")
 
--- BadName: in the lines `nodes` and `consoles` the first word that can't be a name, and why; elsewhere the first that no node has
+-- whether the word is a keyword, and so no name
 abbrev pub is_reserved : List ℕ → Bool
 is_reserved word = is_some (keyword_of word)
 
--- the first byte of the word, from this place on, that can't be in a name
+-- the hint for the first of these bytes that can't be in a name, if there is one; `place` is that of the first of them in the word
 abbrev pub letter_from : List ℕ → ℕ → List ℕ → Option Hint
 letter_from word place [] = None
 letter_from word place (byte ∷ bytes) = if is_name_byte byte then letter_from word (place + 1) bytes else Some (Letter word place)
@@ -121,6 +128,8 @@ is_given_name word = is_name word && not (is_reserved word)
 abbrev pub name_place : List ℕ → ℕ
 name_place first = if is_reserved first then 1 else 2
 
+-- BadName: in `nodes` and `consoles` lines the hint is about the first word that can't be a name, and says why; in other lines about the
+-- first name that no node has
 unfoldable pub bad_name : Texts → Texts → Option Hint
 bad_name lines words =
     if names_actors (word_at words 0)
@@ -142,7 +151,7 @@ hint_of_line number lines line BadNumber = bad_number (few_words line)
 hint_of_line number lines line BadName = bad_name lines (few_words line)
 hint_of_line number lines line OutOfMemory = None
 
--- the hint for the whole input
+-- the hint for a fault of the whole input, which is at no line
 unfoldable pub hint_of_whole : List ℕ → FaultKind → Option Hint
 hint_of_whole bytes TooLong = Some (Plain (codes "a script has at most 1048576 bytes; a session may have 67108864"))
 hint_of_whole bytes NoNodes =
@@ -158,8 +167,8 @@ abbrev pub is_out_of_memory : FaultKind → Bool
 is_out_of_memory OutOfMemory = true
 is_out_of_memory _ = false
 
--- the hint for the first fault of a script, memory apart: it is no script, as it begins with a brace; or what is wrong with the
--- line
+-- the hint for the first fault of a script, of which want of memory has none: that the input is no script, as it begins with a brace;
+-- or what is wrong with the whole input, or with the line
 unfoldable pub hint_of : List ℕ → ScriptFault → Option Hint
 hint_of bytes fault =
     if is_out_of_memory fault.kind then None

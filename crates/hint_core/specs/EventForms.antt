@@ -2,7 +2,7 @@
 use Rattle.std.specs.Prelude.{ℕ, List, Option, Some, None, codes, if◌then◌else◌}
 use Rattle.std.specs.Str.{bytes_eq}
 
--- of a change of presences, by the word of the event
+-- the keys of an event that changes presences, by its word; none for another word
 unfoldable pub tracked_form : List ℕ → Option (List ℕ)
 tracked_form verb =
     if bytes_eq verb (codes "join") then Some (codes "a join has `pid`, `topic`, `key` and `meta`")
@@ -11,7 +11,7 @@ tracked_form verb =
     else (if bytes_eq verb (codes "leave_all") then Some (codes "a leave_all has `pid`")
     else None)))
 
--- of a message that is sent or taken, or else of a change of presences
+-- the keys of an event that sends or takes a message, or else of one that changes presences, by its word
 unfoldable pub message_form : List ℕ → Option (List ℕ)
 message_form verb =
     if bytes_eq verb (codes "broadcast") then Some (codes "a broadcast has `message`")
@@ -21,7 +21,7 @@ message_form verb =
     else (if bytes_eq verb (codes "answer") then Some (codes "an answer has `from`, a string, `message` and `sends`")
     else tracked_form verb))))
 
--- of any event, by its word; nothing, where no event is called so
+-- the keys of any event, by its word; none if no event is called so
 unfoldable pub event_form : List ℕ → Option (List ℕ)
 event_form verb =
     if bytes_eq verb (codes "up") then Some (codes "an up has `name`, a string")

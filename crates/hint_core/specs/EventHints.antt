@@ -12,15 +12,15 @@ use Rattle.hint_core.specs.Hints.{Hint, Plain, About, line_of}
 use Rattle.hint_core.specs.EventForms.{event_form}
 use Rattle.hint_core.specs.Sessions.{begins_object, is_marked}
 
--- BadEvent: what the line's value lacks
+-- BadEvent: the hint tells what the line's value lacks
 
--- a word that no event has; it is shown if it has the bytes of a text alone
+-- the hint about a word that no event has; the word is shown if it is text
 unfoldable pub unknown_event : List ℕ → Hint
 unknown_event verb =
     if is_text verb then About (codes "no event is called ") verb (codes "; `import --help` has them all")
     else Plain (codes "no event has that word under `event`; `import --help` has them all")
 
--- the keys of the event of this word
+-- the hint with the keys of the event of this word, or that no event has this word
 abbrev pub form_hint : List ℕ → Option (List ℕ) → Hint
 form_hint verb (Some form) = Plain form
 form_hint verb None = unknown_event verb
@@ -34,19 +34,19 @@ value_hint d =
     if is_some (text_in (codes "node") d) then verb_hint (text_in (codes "event") d)
     else Plain (codes "each line is an object with `node`, a string, and `event`")
 
--- the hint of a line that is no event; if it has no value, there is none
+-- the hint of a line that has a value but is no event; there is none if the line is blank, is too long or is no JSON
 abbrev pub IsEventHint : List ℕ → Option (List ℕ) → Type 0
 IsEventHint line (Some hint) = (d : Data) × IsValueOf line (Some d) × (hint ≡ line_of (value_hint d))
 IsEventHint line None = IsValueOf line None ⊎ HasNoValue line lines.TooLong ⊎ HasNoValue line lines.NotJson
 
--- NotJson: how the line begins
+-- NotJson: the hint depends on how the line begins
 unfoldable pub json_line_hint : List ℕ → Hint
 json_line_hint line =
     if is_marked line then Plain (codes "the line begins with a byte order mark; save the events without one")
     else (if begins_object line then Plain (codes "each line is one whole JSON object, in double quotes, with nothing behind it")
     else Plain (codes "each line is one JSON object, and this one doesn't begin with `{`"))
 
--- the other kinds, at a line or at none
+-- the hints of the other kinds of fault; a fault of no line is at line 0
 unfoldable pub kind_hint : ℕ → FaultKind → Option Hint
 kind_hint line TooLong =
     if line == 0 then Some (Plain (codes "a script has at most 1048576 bytes; `--as session` and `--as page` may be longer"))

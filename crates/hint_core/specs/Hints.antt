@@ -4,7 +4,7 @@ use Rattle.hint_core.specs.declared.hint.Hint.{Hint as CodeHint}
 use Rattle.hint_core.specs.declared.hint.Hint.TheVariants as hints
 
 -- a text alone; a hint about a word of the line, which stands between two texts; one about a byte of the line, by its place from
--- 1; one about the byte at a place of a word that can't be in a name
+-- 1; one about a byte that can't be in a name, by its word and its place there
 pub data Hint : Type 0 where
   Plain : (text : List ℕ) → Hint
   About : (before word after : List ℕ) → Hint

@@ -5,11 +5,12 @@ use Rattle.std.specs.Str.{bytes_eq}
 use Rattle.bench_core.specs.NameList.{Texts}
 use Rattle.grammar_core.specs.Words.{is_text, words_of}
 
--- the words that are looked at, if the line is text: no line of a script has more than 34
+-- the words of a line that are looked at: the first 34, as a line without a fault has no more unless it is a comment; none if the line
+-- isn't text
 abbrev pub few_words : List ℕ → Texts
 few_words line = if is_text line then take 34 (words_of line) else []
 
--- the word at a place, from 0, or an empty one
+-- the word at a place, counted from 0; an empty word if there is none
 abbrev pub word_at : Texts → ℕ → List ℕ
 word_at words place = unwrap_or (slice_get words place) []
 
@@ -36,7 +37,7 @@ is_node lines word = list_any (names (codes "nodes") word) lines
 abbrev pub is_console : Texts → List ℕ → Bool
 is_console lines word = list_any (names (codes "consoles") word) lines
 
--- the first word that already names a node in these lines, or that repeats a word before it; else an empty one
+-- the first of these words that names a node in the lines, or that stands before, in `before` or among these words; else an empty word
 unfoldable pub first_again : Texts → Texts → Texts → List ℕ
 first_again lines before [] = []
 first_again lines before (word ∷ words) =

@@ -16,7 +16,7 @@ abbrev pub begins_object : List ℕ → Bool
 begins_object [] = false
 begins_object (byte ∷ bytes) = if is_space byte then begins_object bytes else byte == 123
 
--- the three bytes of a byte order mark
+-- whether the bytes begin with a byte order mark, which has three bytes
 abbrev pub is_marked : List ℕ → Bool
 is_marked (a ∷ b ∷ c ∷ rest) = (a == 239) && (b == 187) && (c == 191)
 is_marked _ = false

@@ -29,7 +29,7 @@ abbrev pub kind_of_note : NoteFault → FaultKind
 kind_of_note note_faults.TooManyNodes = TooManyNodes
 kind_of_note note_faults.OutOfMemory = OutOfMemory
 
--- the fault at a line; want of memory has none
+-- the fault at this line; want of memory is at no line, which is line 0
 abbrev pub fault_at : ℕ → FaultKind → ImportFault
 fault_at line OutOfMemory = record { line = 0; kind = OutOfMemory }
 fault_at line kind = record { line = line; kind = kind }
@@ -46,7 +46,7 @@ IsWrong nodes line NeverSent = ⊥
 IsWrong nodes line Circle = ⊥
 IsWrong nodes line OutOfMemory = Unit {0}
 
--- these nodes, and after them those that the lines before this place name
+-- these nodes, and after them the others that the lines before this place name
 abbrev pub nodes_before : Texts → List (List ℕ) → ℕ → Texts
 nodes_before nodes lines place = with_texts nodes (names_on (take place lines))
 
@@ -59,7 +59,7 @@ pub record IsFirstWrong (nodes : Texts) (lines : List (List ℕ)) (place : ℕ) 
   pub few : length nodes ≤ most_names → length (nodes_before nodes lines place) ≤ most_names
   pub wrong : IsWrong (nodes_before nodes lines place) (slice_index_or lines place []) kind
 
--- a line has a fault, and those before it have none; or memory was refused
+-- a line has this fault, and the lines before it have none; or the fault is want of memory
 abbrev pub IsLineFault : Texts → List (List ℕ) → ImportFault → Type 0
 IsLineFault nodes lines fault = by fault.kind
   where
@@ -70,7 +70,8 @@ IsLineFault nodes lines fault = by fault.kind
     by OutOfMemory = Unit {0}
     by kind = first
 
--- the events of these notes have no order, for this reason, which is given at the line of the event
+-- the events of these notes have no order, for the reason that the fault names, at the line of the event that has it; or the fault is
+-- want of memory
 abbrev pub IsOrderFault : List Note → ImportFault → Type 0
 IsOrderFault notes fault = by fault.kind
   where
@@ -84,7 +85,7 @@ IsOrderFault notes fault = by fault.kind
     by OutOfMemory = Unit {0}
     by kind = ⊥
 
--- no event stays; or those that stay have no order
+-- there are no notes; or the events of these notes have no order
 abbrev pub IsNotesFault : List Note → ImportFault → Type 0
 IsNotesFault notes fault = by fault.kind
   where

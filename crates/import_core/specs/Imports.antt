@@ -15,7 +15,7 @@ pub record AreNoted (t : AllTables) (lines : List (List ℕ)) (notes : List Note
   pub say : Say 1 lines events
   pub noted : AreNotesOf t events notes
 
--- the note of a line, if it has an event
+-- the note of a line, or none if the line says no event
 abbrev pub IsNoted : AllTables → ℕ → List ℕ → Option Note → Type 0
 IsNoted t number line None = Says line None
 IsNoted t number line (Some note) = (event : Line) × Says line (Some event) × IsNoteOf t (record { number = number; line = event }) note
@@ -38,8 +38,8 @@ note_at notes place = slice_index_or notes place no_note
 abbrev pub number_at : List Note → ℕ → ℕ
 number_at notes place = (note_at notes place).number
 
--- the notes of the input's events that stay, the lines of those that are left out, and the nearest order of those that stay; the nodes
--- are those that the lines name, by first sight
+-- the notes of the input's events that stay, of which there is at least one; the lines of those that are left out; the nearest order
+-- of those that stay; and the nodes, which are those that the lines name, by first sight, and at most 32
 pub record IsImportOf (lenient : Bool) (bytes : List ℕ) (t : AllTables) (notes : List Note) (order left_out : List ℕ) : Type 0 where
   pub all : List Note
   pub noted : AreNoted t (lines_of bytes) all

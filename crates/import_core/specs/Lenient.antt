@@ -20,27 +20,30 @@ has_awaited test (Some message) = test message
 abbrev pub lines_gone : (ℕ → Bool) → List Note → List ℕ
 lines_gone test notes = map (λ note. note.number) (filter (λ note. not (has_awaited test note.logged.waits)) notes)
 
--- whether the event waits for nothing, or for a message that one of these sends
+-- whether the event waits for no message, or for one that one of these events sends
 abbrev pub can_stay : List Note → Note → Bool
 can_stay notes note = has_awaited (is_sent notes) note.logged.waits
 
--- the events that stay, and the lines of those that go
+-- the events that one round leaves: those that wait for no message, or for one that one of the events sends
 unfoldable pub staying : List Note → List Note
 staying notes = filter (can_stay notes) notes
 
+-- the lines of the events that one round leaves out
 unfoldable pub gone : List Note → List ℕ
 gone notes = lines_gone (is_sent notes) notes
 
--- the events left after some rounds: in each go those that wait for a message which none of the rest sends
+-- the events left after this number of rounds, each over what the round before it left
 unfoldable pub after_rounds : ℕ → List Note → List Note
 after_rounds zero notes = notes
 after_rounds (suc rounds) notes = staying (after_rounds rounds notes)
 
+-- the lines of the events that these rounds leave out, round by round
 unfoldable pub gone_in_rounds : ℕ → List Note → List ℕ
 gone_in_rounds zero notes = []
 gone_in_rounds (suc rounds) notes = gone_in_rounds rounds notes ++ gone (after_rounds rounds notes)
 
--- these events stay, since what they wait for is sent by one of them; the others went in rounds, and these are their lines
+-- `rest` are the events that stay, as each waits for no message or for one that one of them sends; the others went in rounds, and
+-- `left_out` are their lines
 pub record IsLenient (notes rest : List Note) (left_out : List ℕ) : Type 0 where
   pub rounds : ℕ
   pub rest_are : rest ≡ after_rounds rounds notes

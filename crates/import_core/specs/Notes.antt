@@ -12,7 +12,8 @@ use Rattle.import_core.specs.Tables.{AllTables, IsNodeOf}
 use Rattle.import_core.specs.Steps.{IsStepOf, IsSentOf, is_online}
 use Rattle.import_core.specs.Listed.{IsListOf}
 
--- what an order needs to know of an event, the number of its line, its step, if it is one, and the rows that it lists
+-- of an event: the number of its line, what an order needs to know of it, the step that stands for it, if there is one, and the rows
+-- that it lists
 pub record Note : Type 0 where
   pub number : ℕ
   pub logged : Logged

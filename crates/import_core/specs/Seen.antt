@@ -16,15 +16,16 @@ use Rattle.import_core.specs.Tables.{AllTables}
 unfoldable pub with_text : Texts → List ℕ → Texts
 with_text texts text = if list_any (bytes_eq text) texts then texts else texts ++ text ∷ []
 
--- the texts, and each of the new ones among these after them
+-- the texts, and after them each text of `more` that isn't among them yet
 abbrev pub with_texts : Texts → Texts → Texts
 with_texts texts more = fold with_text texts more
 
--- the later nodes are the earlier ones, and after them the new ones among these, by first sight. The next definition: there are
--- too many with these
+-- the nodes of the later tables are those of the earlier ones, and after them each of these names that isn't among them yet, by first
+-- sight
 abbrev pub SeesNodes : AllTables → AllTables → Texts → Type 0
 SeesNodes earlier later names = later.nodes ≡ with_texts earlier.nodes names
 
+-- the nodes of the earlier tables and those of these names that aren't among them are more than `most_names`
 abbrev pub HasTooMany : AllTables → Texts → Type 0
 HasTooMany earlier names = most_names < length (with_texts earlier.nodes names)
 
@@ -41,24 +42,26 @@ abbrev pub names_among : Items → Texts
 names_among no_items = []
 names_among (item d ds) = text_if (as_str d) ++ names_among ds
 
--- the nodes of rows
+-- the nodes that the listed rows among these values name
 abbrev pub nodes_among : Items → Texts
 nodes_among no_items = []
 nodes_among (item d ds) = node_if (log.row_at d) ++ nodes_among ds
 
--- the nodes that an event names besides its own: by a message that is sent or taken, by a status, or by rows that are listed
+-- the nodes besides its own that an event names because it sends or takes a message
 abbrev pub message_names : log.Event → Texts
 message_names (log.extract names message) = names_among names
 message_names (log.deliver from message) = from ∷ []
 message_names (log.answer from message sends) = from ∷ []
 message_names event = []
 
+-- the node whose status an event sets
 abbrev pub status_names : log.Event → Texts
 status_names (log.up name) = name ∷ []
 status_names (log.down name) = name ∷ []
 status_names (log.permdown name) = name ∷ []
 status_names event = []
 
+-- the nodes that an event names in rows that it lists
 abbrev pub row_names : log.Event → Texts
 row_names (log.online rows) = nodes_among rows
 row_names event = []

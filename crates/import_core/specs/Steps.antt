@@ -20,12 +20,12 @@ pub record IsPresenceOf (t : AllTables) (tracked : log.Tracked) (presence : Pres
   pub key : IsWordOf t.longs tracked.key presence.key
   pub metadata : IsWordOf t.longs tracked.meta presence.metadata
 
--- `Rest` holds of these nodes; if there is a name, with its node added
+-- `Rest` holds of these nodes; or, if there is a name, of these nodes with the one of this name
 abbrev pub NodeIn : AllTables → Names → Option (List ℕ) → (Names → Type 0) → Type 0
 NodeIn t found None Rest = Rest found
 NodeIn t found (Some name) Rest = (node : ℕ) × IsNodeOf t name node × Rest (set.insert found node)
 
--- the set of these nodes, and of those with these names
+-- `names` are these nodes, and those whose names are the strings among the values
 abbrev pub AreNodesOf : AllTables → Names → Items → Names → Type 0
 AreNodesOf t found no_items names = names ≡ found
 AreNodesOf t found (item d ds) names = NodeIn t found (as_str d) (λ more. AreNodesOf t more ds names)
@@ -54,7 +54,7 @@ IsSentOf t node (log.extract names message) sends = (k : ℕ) × (sends ≡ Some
 IsSentOf t node (log.answer from message answer) sends = (k : ℕ) × (sends ≡ Some k) × IsMessageOf t node answer k
 IsSentOf t node event sends = sends ≡ None
 
--- a change of the own presences; a message sent or taken; a status; and a list of rows, which is no step
+-- whether an event changes own presences
 abbrev pub is_own : log.Event → Bool
 is_own (log.join tracked) = true
 is_own (log.update tracked) = true
@@ -62,6 +62,7 @@ is_own (log.leave pid topic key) = true
 is_own (log.leave_all pid) = true
 is_own _ = false
 
+-- whether an event sends or takes a message
 abbrev pub is_message : log.Event → Bool
 is_message (log.broadcast message) = true
 is_message (log.request message) = true
@@ -70,12 +71,14 @@ is_message (log.deliver from message) = true
 is_message (log.answer from message sends) = true
 is_message _ = false
 
+-- whether an event sets a status
 abbrev pub is_status : log.Event → Bool
 is_status (log.up name) = true
 is_status (log.down name) = true
 is_status (log.permdown name) = true
 is_status _ = false
 
+-- whether an event lists rows, for which no step stands
 abbrev pub is_online : log.Event → Bool
 is_online (log.online rows) = true
 is_online _ = false

@@ -13,7 +13,7 @@ use Rattle.spelling_core.specs.WordText.{spelled, word_of, AreBytes}
 abbrev pub Extends : Texts → Texts → Type 0
 Extends earlier later = (more : Texts) × (later ≡ earlier ++ more)
 
--- a text from which the value is read again; if the value has no float, there is only one such text without spaces
+-- a text from which the value is read again, if it isn't nested too deep; if it has no float, its compact text
 pub record IsTextOf (d : Data) (text : List ℕ) : Type 0 where
   pub reads : depth d ≤ max_depth → read text ≡ Some d
   pub compact : has_float d ≡ false → text ≡ compact_text d
@@ -30,7 +30,7 @@ pub record IsSpellingOf (d : Data) (spelling : List ℕ) : Type 0 where
   pub told : ToldBy (as_str d) d is_string text
   pub is : spelling ≡ spelled is_string text
 
--- the number of a value among those with these texts
+-- the number of a value: the place, from 0, that a text of it has among these texts
 pub record IsNumberOf (texts : Texts) (d : Data) (number : ℕ) : Type 0 where
   pub text : List ℕ
   pub small : number < 2 ^ 64
@@ -78,7 +78,7 @@ pub record IsMessageOf (t : AllTables) (sender : ℕ) (d : Data) (message : ℕ)
   pub tells : IsTextOf d text
   pub numbered : number_in t.messages (message_text sender text) ≡ Some message
 
--- a word, or a number, stands for one value alone
+-- a word, or a process's number, stands for one value alone, of those that aren't nested too deep
 pub record OneValueLaw : Type 0 where
   pub words : (longs : Texts) (d e : Data) (word : List ℕ) → depth d ≤ max_depth → depth e ≤ max_depth → IsWordOf longs d word →
       IsWordOf longs e word → d ≡ e

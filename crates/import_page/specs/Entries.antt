@@ -18,7 +18,7 @@ abbrev pub time_key : Option (List ℕ) → List ℕ
 time_key None = []
 time_key (Some time) = text_key (codes "time") time
 
--- `{"line":L,"time":"TIME"`
+-- `{"line":L,"time":"TIME"`, or without the time if there is none; after a comma, except at place 0
 unfoldable pub head_text : ℕ → ℕ → Option (List ℕ) → List ℕ
 head_text place number time = comma_at place ++ codes "{\"line\":" ++ decimal number ++ time_key time
 
@@ -35,12 +35,12 @@ unfoldable pub rows_text : ℕ → List Row → List ℕ
 rows_text place [] = []
 rows_text place (row ∷ rows) = comma_at place ++ row_text row ++ rows_text (place + 1) rows
 
--- for a list of the node: the rows that only the bench has, and those that only the real node listed
+-- what is told of a list of the node: the rows that only the bench has, and those that only the real node listed
 unfoldable pub list_text : ℕ → List Row → List Row → List ℕ
 list_text node ours theirs =
     number_key (codes "node") node ++ codes ",\"online\":[[" ++ rows_text 0 ours ++ codes "],[" ++ rows_text 0 theirs ++ codes "]]"
 
--- for a step of the node that isn't asked, as its message was not sent
+-- what is told of a step that isn't asked of the bench: the message that it takes was not sent, or it is an extract of no names
 unfoldable pub unsent_text : ℕ → List ℕ
 unsent_text node = number_key (codes "node") node ++ codes ",\"unsent\":true"
 
@@ -52,7 +52,7 @@ pub record IsListTold (note : Note) (bench : List Row) (text : List ℕ) : Type 
   pub theirs_are : AreOnly theirs (map unclocked note.rows) (map unclocked bench)
   pub text_is : text ≡ list_text note.logged.node ours theirs
 
--- what the page tells of an event, by what the event asks; a step appears as its call
+-- what the object of an event tells beside its line and its time, by what the event asks; nothing for a step that is asked of the bench
 abbrev pub IsAskedTold : Machine → Note → Asked → List ℕ → Type 0
 IsAskedTold m note list text = IsListTold note (rows_at m note.logged.node) text
 IsAskedTold m note nothing text = text ≡ unsent_text note.logged.node

@@ -1,4 +1,4 @@
--- What the data of an import's page has after the calls.
+-- The keys that follow the calls in the data of an import's page.
 use Rattle.std.specs.Prelude.{◌≡◌, ℕ, Bool, List, ◌++◌, codes, length}
 use Rattle.bench_core.specs.Limits.{Limits}
 use Rattle.bench_core.specs.Machine.{Machine}

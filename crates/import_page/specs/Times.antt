@@ -15,7 +15,7 @@ abbrev pub IsTimeIn : Option Data → Option (List ℕ) → Type 0
 IsTimeIn None time = time ≡ None
 IsTimeIn (Some d) time = IsTimeBy (as_str d) (as_number d) d time
 
--- the time that a value has
+-- the time that the value of a line has, under `time`
 abbrev pub IsTimeOf : Data → Option (List ℕ) → Type 0
 IsTimeOf d time = IsTimeIn (get (codes "time") d) time
 

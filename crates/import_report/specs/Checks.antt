@@ -23,7 +23,7 @@ use Rattle.import_report.specs.Scripts.{in_order, opening}
 unfoldable pub place_text : Texts → Note → List ℕ
 place_text names note = codes "line " ++ decimal note.number ++ codes " " ++ name_at names note.logged.node
 
--- for a list: the rows that only the bench has, and those that only the real node listed; nothing if there are none
+-- the text about a list: the rows that only the bench has, and those that only the real node listed; nothing if there are none
 unfoldable pub list_text : Texts → Note → List Row → List Row → List ℕ
 list_text names note ours theirs = if is_no_change ours theirs then [] else ended (place_text names note) ++ change_lines names ours theirs
 
@@ -36,17 +36,17 @@ pub record IsListChecked (names : Texts) (note : Note) (bench : List Row) (agree
   pub agrees_is : agrees ≡ is_no_change ours theirs
   pub text_is : text ≡ list_text names note ours theirs
 
--- for a step: its refusal, `line L NODE no NAME`
+-- the text about a step: its refusal, `line L NODE no NAME`; nothing if it isn't refused
 unfoldable pub refusal_text : Texts → Note → Reply → List ℕ
 refusal_text names note (Taken number) = []
 refusal_text names note (Undone number) = []
 refusal_text names note (Refused fault) = place_text names note ++ codes " no " ++ fault_text fault ++ codes "\n"
 
--- for an event that asks nothing, as its message was not sent
+-- the text about an event that asks nothing: the message that it takes was not sent, or it is an extract of no names
 unfoldable pub unsent_text : Texts → Note → List ℕ
 unsent_text names note = place_text names note ++ codes " no message\n"
 
--- for what an event asks of the bench: whether lists agree, one result for each list, and the text about it
+-- what an event asks of the bench, checked: whether lists agree, one result for each list, and the text about it
 abbrev pub IsAskedChecked : Texts → Machine → Note → Asked → List Bool → List ℕ → Type 0
 IsAskedChecked names m note list agreements text = (agrees : Bool) × (agreements ≡ agrees ∷ []) ×
     IsListChecked names note (rows_at m note.logged.node) agrees text
@@ -56,7 +56,7 @@ IsAskedChecked names m note (step operation) agreements text = (agreements ≡ [
 unfoldable pub IsEventChecked : Texts → Playing → Note → List Bool → List ℕ → Type 0
 IsEventChecked names p note agreements text = IsAskedChecked names p.machine note (asked_by p.numbers note.step) agreements text
 
--- for events one after another: whether lists agree, one result for each list, and the text about them
+-- events checked one after another: whether lists agree, one result for each list, and the text about them
 abbrev pub AreChecked : Texts → Playing → List Note → List Bool → List ℕ → Type 0
 AreChecked names p [] agreements text = (agreements ≡ []) × (text ≡ [])
 AreChecked names p (note ∷ notes) agreements text =

@@ -11,10 +11,11 @@ use Rattle.import_report.specs.Events.{ended}
 abbrev pub shortened : List ℕ → List ℕ
 shortened bytes = if nat_le (length bytes) 4000 then bytes else take 4000 bytes ++ codes ".."
 
--- `# n0 is "app@10.0.0.1"`, where the node has another name in the script
+-- `# n0 is "app@10.0.0.1"`
 abbrev pub node_line : List ℕ → List ℕ → List ℕ
 node_line name node = codes "# " ++ name ++ codes " is \"" ++ shortened (string_text node) ++ codes "\""
 
+-- the line about a node's own name; nothing if the node has that name in the script
 abbrev pub node_comment : List ℕ → List ℕ → List ℕ
 node_comment name node = if bytes_eq name node then [] else ended (node_line name node)
 

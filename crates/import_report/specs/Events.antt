@@ -21,7 +21,7 @@ pub record Playing : Type 0 where
   pub machine : Machine
   pub numbers : List ℕ
 
--- the number that a sent message has in its sender's outbox
+-- the number of a message in its sender's outbox; none if it is 0, as the message was not sent, or has more than 64 bits
 abbrev pub sent_number : ℕ → Option ℕ
 sent_number number = if nat_lt 0 number && nat_lt number (2 ^ 64) then Some number else None
 
@@ -40,7 +40,7 @@ abbrev pub outbox_length : Option Node → ℕ
 outbox_length None = 0
 outbox_length (Some node) = length node.outbox
 
--- the message that a step sends, if it was taken, has the last number of its sender's outbox
+-- once a step was taken, the message that it sends has the last number of its sender's outbox
 abbrev pub numbers_after : Machine → List ℕ → ℕ → Option ℕ → Reply → List ℕ
 numbers_after m numbers node (Some message) (Taken step) = slice_set numbers message (outbox_length (node_of m node))
 numbers_after m numbers node _ _ = numbers
@@ -107,7 +107,7 @@ mark_text true number = ended (mark_line number)
 unfoldable pub event_text : Bool → Texts → Playing → Note → List ℕ
 event_text told names p note = mark_text told note.number ++ ended (event_line names p note)
 
--- the text of events one after another, and what they ask
+-- the text of events one after another
 unfoldable pub events_text : Bool → Texts → Playing → List Note → List ℕ
 events_text told names p [] = []
 events_text told names p (note ∷ notes) = event_text told names p note ++ events_text told names (after_event p note) notes
@@ -117,6 +117,7 @@ unfoldable pub after_events : Playing → List Note → Playing
 after_events p [] = p
 after_events p (note ∷ notes) = after_events (after_event p note) notes
 
+-- the commands of events one after another
 unfoldable pub events_commands : Playing → List Note → List Command
 events_commands p [] = []
 events_commands p (note ∷ notes) = event_commands p note ++ events_commands (after_event p note) notes

@@ -22,6 +22,6 @@ abbrev pub or_numbered : ℕ → Result Texts FaultKind → Texts
 or_numbered count (Ok names) = names
 or_numbered count (Err kind) = numbered_names count
 
--- the nodes keep their names if a `nodes` line can have them all
+-- the nodes keep their names if a `nodes` line can have them all; or else they are named `n0`, `n1` ..
 abbrev pub shown_names : Texts → Texts
 shown_names nodes = or_numbered (length nodes) (node_names nodes)

@@ -23,7 +23,7 @@ spaced_names names = flat_map (λ name. codes " " ++ name) names
 unfoldable pub nodes_line : Texts → List ℕ
 nodes_line names = codes "nodes" ++ spaced_names names
 
--- the events in their order
+-- the notes in this order, which has their places from 0
 abbrev pub in_order : List Note → List ℕ → List Note
 in_order notes order = map (note_at notes) order
 
@@ -46,7 +46,7 @@ pub record IsReadAs (text : List ℕ) (names : Texts) (asked : List Command) : T
   pub cast : script.cast ≡ record { nodes = names; consoles = [] }
   pub commands : commands_of script.lines ≡ asked
 
--- the script of these events in their order
+-- the text is the script of these events in their order; it isn't too long, and is read as a script that asks what they ask
 pub record IsScriptOf (told : Bool) (limits : Limits) (names : Texts) (t : AllTables) (notes : List Note) (text : List ℕ) : Type 0 where
   pub is : text ≡ script_text told limits names t notes
   pub short : length text ≤ longest_script
@@ -73,7 +73,7 @@ pub record IsBenchOf (lenient : Bool) (limits : Limits) (bytes : List ℕ) (benc
 abbrev pub IsTooLong : Bool → Limits → Texts → AllTables → List Note → Type 0
 IsTooLong told limits names t notes = longest_script < length (script_text told limits names t notes)
 
--- why there is no script: the input can't be imported, or the script is too long
+-- the input can be imported, but its script is too long
 pub record IsLongImport (lenient told : Bool) (limits : Limits) (bytes : List ℕ) : Type 0 where
   pub tables : AllTables
   pub notes : List Note
@@ -82,6 +82,7 @@ pub record IsLongImport (lenient told : Bool) (limits : Limits) (bytes : List �
   pub import : IsImportOf lenient bytes tables notes order left_out
   pub long : IsTooLong told limits (shown_names tables.nodes) tables (in_order notes order)
 
+-- why there is no script: the input can't be imported, or the script is too long
 abbrev pub IsRefused : Bool → Bool → Limits → List ℕ → ImportFault → Type 0
 IsRefused lenient told limits bytes fault =
     IsImportFault lenient bytes fault ⊎ ((fault ≡ record { line = 0; kind = TooLong }) × IsLongImport lenient told limits bytes)

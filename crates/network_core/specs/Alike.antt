@@ -40,7 +40,8 @@ BothAre R None (Some y) = ⊥
 BothAre R (Some x) None = ⊥
 BothAre R (Some x) (Some y) = R x y
 
--- two outboxes have messages at the same numbers, and these agree at the dots that matter in them
+-- two outboxes have messages at the same numbers, and two messages of one number are alike in the dots that matter in
+-- them
 abbrev pub SentAlike : (ℕ → Dot → Bool) → List Message → List Message → Type 0
 SentAlike of xs ys = (i : ℕ) → BothAre (MessageAlike (of i)) (numbered xs i) (numbered ys i)
 
@@ -68,7 +69,8 @@ abbrev pub asked_of : Option Message → Option Names
 asked_of None = None
 asked_of (Some m) = m.asked
 
--- the names of which a step sends what its node has: an extract or an answer; `None` for another step
+-- the names of which a step sends what its node has: those of an extract, or those that are asked for by the message
+-- that an answer delivers; `None` if there are no such names
 abbrev pub sends_of : Cluster → Operation → Option Names
 sends_of c (Extract names) = Some names
 sends_of c (Answer sender number) = asked_of (message_at c (Some (sender, number)))
@@ -83,17 +85,17 @@ forgets _ n = false
 pub record Narrows (c : Cluster) (k : Kept) (t u : Cares) : Type 0 where
   -- what matters in a store after the step mattered there before, unless the step forgets the dot's name there
   pub at : (n : ℕ) (d : Dot) → ((n == k.node) && forgets k.step d.name) ≡ false → u.at n d ≡ true → t.at n d ≡ true
-  -- what matters after the step in a message that was sent before mattered in that message before
+  -- of a message that cluster c has, each dot that matters after the step mattered before it, too
   pub of : (n i : ℕ) (m : Message) → message_at c (Some (n, i)) ≡ Some m → (d : Dot) → u.of n i d ≡ true → t.of n i d ≡ true
   -- what matters to the node after a delivery mattered in the message
   pub read : (sender number : ℕ) → k.step ≡ Deliver sender number → (d : Dot) → u.at k.node d ≡ true → t.of sender number d ≡ true
-  -- what matters in the message of an extract or an answer, of a name that it sends, mattered to its node before, or is
-  -- the node's own
+  -- a dot that matters in the message of an extract or an answer, and has a name of which the step sends what its node
+  -- has, mattered to the node before the step, or is the node's own
   pub sent : (x : Node) (names : Names) → slice_get c k.node ≡ Some x → sends_of c k.step ≡ Some names → (d : Dot) →
       u.of k.node (suc (length x.outbox)) d ≡ true → set.contains names d.name ≡ true → is_compared (t.at k.node) x.replica.own d ≡ true
 
--- from cluster c on, what matters after each of these steps comes from what matters before that step: t at first, and
--- `end` at last
+-- from cluster c on, as long as the steps are accepted, what matters after each of them comes from what matters before
+-- it; t tells what matters before the first step, and `end` what matters after the last
 pub data Follows : Cluster → Cares → List Kept → Cares → Type 0 where
   Ends : (c : Cluster) (t : Cares) → Follows c t [] t
   Goes : (c : Cluster) (t : Cares) (k : Kept) (ks : List Kept) (u end : Cares) → Narrows c k t u →

@@ -15,13 +15,13 @@ pub data StepTogether (u : Cares) (one two : Result Cluster Fault) : Type 0 wher
   Refused : (fault : Fault) → one ≡ Err fault → two ≡ Err fault → StepTogether u one two
   Taken : (c d : Cluster) → one ≡ Ok c → two ≡ Ok d → ClusterAlike u c d → StepTogether u one two
 
--- a step that comes to two alike clusters has one of these results, if what matters after it comes from what matters
--- before it
+-- one step, asked of two clusters that are alike in what matters before it, has one of the results of `StepTogether`,
+-- if what matters after it comes from what matters before it
 abbrev pub StepLaw : Type 0
 StepLaw = (t u : Cares) (c d : Cluster) (k : Kept) → ClusterAlike t c d → Narrows c k t u → StepTogether u (step c k.node k.step) (step d k.node k.step)
 
--- if a cluster takes these steps, a cluster that is alike to it takes them too, and both end alike, unless the second
--- refuses a step as `EntriesFull`
+-- if a cluster takes these steps, and what matters after each comes from what matters before it, then a cluster that is
+-- alike to it takes them too, and both end alike, unless the second refuses a step as `EntriesFull`
 abbrev pub StepsLaw : Type 0
 StepsLaw =
     (t end : Cares) (c d e : Cluster) (ks : List Kept) → ClusterAlike t c d → Follows c t ks end → then_runs (Ok c) ks ≡ Ok e →

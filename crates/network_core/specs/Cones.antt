@@ -43,7 +43,8 @@ says _ name = false
 pub record IsCone (j : List Kept) (t : Cone) : Type 0 where
   -- what matters to a node after a step other than a delivery mattered to it before that step
   pub before : (n p : ℕ) (d : Dot) → t.at n (suc p) d ≡ true → t.at n p d ≡ true
-  -- what matters to a node before its first step matters in each message of which j has a delivery at the node
+  -- what matters to a node before its first step other than a delivery matters in each message of which j has a
+  -- delivery at the node
   pub read : AllByRecursion (λ (k : Kept). (sender number : ℕ) → k.step ≡ Deliver sender number → (d : Dot) → t.at k.node 0 d ≡ true →
       t.of sender number d ≡ true) j
   -- what matters in the message of an extract or an answer, and can come from what its node has, matters to the node
@@ -57,8 +58,8 @@ ConeLaw =
     (l : NodeLimits) (count : ℕ) (j : List Kept) (lost again : ℕ) (t : Cone) (first rest : List Kept) (c : Cluster) → IsCone j t →
     IsNetworkRun j lost again (first ++ rest) → runs l count first ≡ Ok c → Follows c (cares t first) rest (cares t (first ++ rest))
 
--- after both beginnings the same is left to do: each node took the same steps, and the same deliveries came, each as
--- often
+-- after both beginnings the same is left to do: each node took the same steps other than deliveries, in the same order,
+-- and the same deliveries came, each as often
 pub record LeaveSame (first other : List Kept) : Type 0 where
   pub own : (n : ℕ) → ordered other n ≡ ordered first n
   pub delivered : HaveSame (deliveries other) (deliveries first)
@@ -69,8 +70,8 @@ pub record GoesLike (l : NodeLimits) (count : ℕ) (j : List Kept) (lost again :
   pub alike : ClusterAlike (cares t j) c end
   pub goes : GoesOn l count j lost again first end
 
--- beginning `other` serves for `first` if the same is left to do after both and their clusters are alike in what
--- matters: whatever a run leads to from `first`, a run from `other` leads to a cluster that is alike
+-- where no node can get too many entries, beginning `other` serves for `first` if the same is left to do after both and their
+-- clusters are alike in what matters: whatever a run leads to from `first`, a run from `other` leads to a cluster that is alike
 abbrev pub StandsLaw : Type 0
 StandsLaw =
     (l : NodeLimits) (count : ℕ) (j : List Kept) (lost again : ℕ) (t : Cone) (first other : List Kept) (old new c : Cluster) → IsCone j t → made j ≤ l.entries →
@@ -84,8 +85,8 @@ pub record IsIdle (t : Cares) (c : Cluster) (node sender number : ℕ) : Type 0 
   pub there : message_at c (Some (sender, number)) ≡ Some message
   pub nothing : (d : Dot) → t.at node d ≡ true → set.contains message.seen d ≡ false
 
--- a delivery can come at once if it is accepted, brings nothing that matters, and came less often than it was recorded:
--- whatever a run leads to from `first`, a run that goes on with this delivery leads to a cluster that is alike
+-- where no node can get too many entries, a delivery can come at once if it is accepted, brings nothing that matters, and came less often
+-- than it was recorded: whatever a run leads to from `first`, a run that goes on with this delivery leads to a cluster that is alike
 abbrev pub IdleLaw : Type 0
 IdleLaw =
     (l : NodeLimits) (count : ℕ) (j : List Kept) (lost again : ℕ) (t : Cone) (first : List Kept) (i node sender number : ℕ) (old new c : Cluster) → IsCone j t →

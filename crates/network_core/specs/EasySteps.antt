@@ -12,8 +12,8 @@ use Rattle.bench_core.specs.Runs.{runs}
 use Rattle.network_core.specs.NetworkRuns.{IsNetworkRun, ordered}
 use Rattle.network_core.specs.Room.{made}
 
--- whether a step is of a kind that is always easy: it concerns only its node's own entries, its delta and names it
--- knows
+-- whether a step is of a kind that is always easy: it concerns only its node's own entries, that node's delta and names
+-- that the node knows
 abbrev pub is_always_easy : Operation → Bool
 is_always_easy (Join presence) = true
 is_always_easy (Leave pid topic key) = true
@@ -24,7 +24,7 @@ is_always_easy Request = true
 is_always_easy (Down name) = true
 is_always_easy _ = false
 
--- the kept step with this number, of this node
+-- step s of this node as a kept step, with this number
 abbrev pub step_of : ℕ → ℕ → Operation → Kept
 step_of number node s = record { number = number; node = node; step = s }
 
@@ -55,9 +55,8 @@ pub record GoesOn (l : NodeLimits) (count : ℕ) (j : List Kept) (lost again : �
   pub is_run : IsNetworkRun j lost again (first ++ rest)
   pub ends : runs l count (first ++ rest) ≡ Ok c
 
--- if a node's next step other than a delivery is easy, a walk may take it at once: whatever a run with this beginning
--- leads to, so does a run of the network that goes on with this step, if the run makes no more entries than a node may
--- hold
+-- a walk may take a node's next step other than a delivery at once, if the step is easy: for each run with this
+-- beginning that makes no more entries than a node may hold, a run that goes on with this step leads to the same cluster
 abbrev pub EagerStepLaw : Type 0
 EagerStepLaw =
     (l : NodeLimits) (count : ℕ) (j : List Kept) (lost again node : ℕ) (first more : List Kept) (k : Kept) (c : Cluster) →

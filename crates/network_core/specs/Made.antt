@@ -17,7 +17,8 @@ use Rattle.bench_core.specs.Laws.{presence_made}
 use Rattle.network_core.specs.NetworkRuns.{IsNetworkRun, ordered}
 use Rattle.network_core.specs.Rows.{AreWanted, is_row_of}
 
--- a replica after an accepted step, where nothing is ever delivered: what the step does to own dots, delta and statuses
+-- a replica after an accepted step, where nothing is ever delivered: what the step does to own dots, entries, delta and
+-- statuses
 abbrev pub own_after : Operation → Replica → Replica
 own_after (Join p) r = joined p r
 own_after (Leave pid topic key) r = left_each (tracked_dots r pid topic key) r
@@ -54,7 +55,7 @@ MadeLaw =
     (l : NodeLimits) (count : ℕ) (ks : List Kept) (c : Cluster) (n : ℕ) (x : Node) (d : Dot) (p : Presence) → runs l count ks ≡ Ok c → slice_get c n ≡ Some x →
     fin.get x.replica.store.entries d ≡ Some p → IsMade l ks d p
 
--- a node's fresh dot at the end of a run depends on its steps other than deliveries alone
+-- which dot is a node's fresh one at the end of a run depends only on the node's steps other than deliveries
 abbrev pub FreshLaw : Type 0
 FreshLaw =
     (l : NodeLimits) (count : ℕ) (ks : List Kept) (c : Cluster) (n : ℕ) (x : Node) → runs l count ks ≡ Ok c → slice_get c n ≡ Some x →
@@ -64,8 +65,8 @@ FreshLaw =
 abbrev pub WantsMade : NodeLimits → List Kept → (Dot → Bool) → List ℕ → List ℕ → Type 0
 WantsMade l j wanted topic key = (d : Dot) (p : Presence) → IsMade l j d p → is_row_of topic key (row_of (d, p)) ≡ true → wanted d ≡ true
 
--- if `wanted` holds of the dots of all entries that the recorded run makes under the topic and the key, it holds of
--- those of all entries that a node has under them at the end of a run of the network
+-- if `wanted` holds of the dot of each entry that the recorded run makes under the topic and the key, it also holds of
+-- the dot of each entry that a node has under them at the end of a run of the network
 abbrev pub WantedLaw : Type 0
 WantedLaw =
     (l : NodeLimits) (count : ℕ) (j r : List Kept) (lost again n : ℕ) (wanted : Dot → Bool) (topic key : List ℕ) (c : Cluster) (x : Node) →

@@ -1,5 +1,5 @@
--- What the network could have made of a run: each node takes the same steps, deliveries apart, and its messages come at
--- other times, get lost or come again.
+-- What the network could have made of a run: each node takes the same steps, deliveries apart, and the deliveries come
+-- at other times, get lost or come again.
 use Rattle.std.specs.Prelude.{◌≡◌, ℕ, ◌≤◌, ◌==◌, ◌&&◌, not, Bool, true, false, List, ◌++◌, filter, length}
 use Rattle.node_core.specs.Operations.{Operation, Deliver}
 use Rattle.journal_core.specs.Journals.{Kept}
@@ -25,7 +25,7 @@ deliveries ks = filter (λ k. is_delivery k.step) ks
 abbrev pub how_many : (ℕ → Operation → Bool) → List Kept → ℕ
 how_many p ks = length (filter (λ k. p k.node k.step) ks)
 
--- whether a step of node `n` is a delivery at this node of the sender's message of this number
+-- whether a step of node n is a delivery, at `node`, of the sender's message of this number
 abbrev pub is_of_kind : ℕ → ℕ → ℕ → ℕ → Operation → Bool
 is_of_kind node sender number n (Deliver s i) = (n == node) && ((s == sender) && (i == number))
 is_of_kind node sender number n _ = false

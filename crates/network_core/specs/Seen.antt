@@ -12,7 +12,8 @@ use Rattle.network_core.specs.Alike.{ReplicaAlike}
 use Rattle.network_core.specs.Made.{own_from}
 use Rattle.network_core.specs.NetworkRuns.{IsNetworkRun, ordered}
 
--- a step among these took the dot: the clock is at most the own clock to which the steps of the dot's node lead
+-- a step among these took the dot: its name is a node's, and its clock is from 1 to the own clock to which that node's
+-- steps other than deliveries lead
 pub record IsGiven (l : NodeLimits) (count : ℕ) (ks : List Kept) (d : Dot) : Type 0 where
   pub node : d.name < count
   pub least : 1 ≤ d.clock

@@ -68,13 +68,16 @@ pub record SettleLaw : Type 0 where
   pub idle : (g : Walk) (w : List Kept) (i node sender number : ℕ) (c d : Cluster) → IsWalk g → Ran g w c → IsIdle (cares g.cone w) c node sender number →
       step c node (Deliver sender number) ≡ Ok d → how_many (is_of_kind node sender number) w < how_many (is_of_kind node sender number) g.recorded →
       IsSettled g (w ++ delivery i node sender number ∷ []) → IsSettled g w
-  -- another beginning v is settled, after which the same is left to do and the dots that matter stand alike
+  -- another beginning v is settled, the same is left to do after v as after w, and the dots that matter stand alike
+  -- after both
   pub same : (g : Walk) (w v : List Kept) (c d : Cluster) → IsWalk g → Ran g w c → Ran g v d → LeaveSame w v →
       StandAlike (cares g.cone w) g.limits w c d → IsSettled g v → IsSettled g w
-  -- a beginning that ends with a delivery is settled with one number at that step if it is with another
+  -- w with an accepted delivery, as the step with number j, is settled if w with the same delivery, as the step with
+  -- number i, is settled
   pub renumbered : (g : Walk) (w : List Kept) (i j node sender number : ℕ) (c d : Cluster) → IsWalk g → Ran g w c → step c node (Deliver sender number) ≡ Ok d →
       IsSettled g (w ++ delivery i node sender number ∷ []) → IsSettled g (w ++ delivery j node sender number ∷ [])
-  -- w with each accepted step that can come next is settled; and the cluster counts as found, if a run may end here
+  -- w with each accepted step that can come next is settled; and if w is a whole run, the cluster to which w leads
+  -- counts as found
   pub all : (g : Walk) (w : List Kept) (c : Cluster) → Ran g w c → (IsNetworkRun g.recorded g.lost g.again w → g.told c ≡ true) →
       ((k : Kept) (d : Cluster) (rest : List Kept) → IsNetworkRun g.recorded g.lost g.again (w ++ k ∷ rest) → step c k.node k.step ≡ Ok d →
       IsSettled g (w ++ k ∷ [])) → IsSettled g w
@@ -84,8 +87,8 @@ pub record SettleLaw : Type 0 where
 abbrev pub LengthLaw : Type 0
 LengthLaw = (j r : List Kept) (lost again : ℕ) → IsNetworkRun j lost again r → length r ≤ length j + again
 
--- no delivery of this message at this node is left after w: as many came as were recorded, and none may come a second
--- time, or none was recorded
+-- no delivery of this message at this node is left after w: at least as many came as were recorded, and either none may
+-- come a second time or none was recorded
 pub record IsSpent (g : Walk) (w : List Kept) (n sender number : ℕ) : Type 0 where
   pub came : how_many (is_of_kind n sender number) g.recorded ≤ how_many (is_of_kind n sender number) w
   pub last : (g.again ≡ 0) ⊎ (how_many (is_of_kind n sender number) g.recorded ≡ 0)

@@ -1,4 +1,4 @@
--- Steps that a walk can take at once and miss no outcome, by the cluster at which it stands.
+-- Steps that a walk can take at once without missing an outcome, by the cluster at which the walk stands.
 use Rattle.std.specs.Prelude.{◌≡◌, ◌==◌, ◌<◌, ℕ, true, false, List, slice_get, Some}
 use Rattle.std.specs.FinSet as set
 use Rattle.dots_core.specs.declared.dot.Dot.{Dot}
@@ -13,7 +13,7 @@ use Rattle.network_rules.specs.declared.turn.Turn.{Turn}
 use Rattle.network_rules.specs.Tables.{is_wanted, matter, Tables}
 use Rattle.network_rules.specs.Turns.{count_at}
 
--- the step is easy at this cluster: it concerns only its node's own entries, delta and known names
+-- the step is easy at this cluster: it is of a kind that always is, or an up of a name that its node knows
 pub data IsEasyAt (c : Cluster) (node : ℕ) (s : Operation) : Type 0 where
   IsAlwaysEasy : is_always_easy s ≡ true → IsEasyAt c node s
   IsKnownUp : (name : ℕ) → s ≡ Up name → ((x : Node) → slice_get c node ≡ Some x → is_known x.replica name ≡ true) → IsEasyAt c node s
@@ -23,8 +23,8 @@ abbrev pub BringsNone : List Dot → Names → ℕ → Message → Type 0
 BringsNone dots names own m =
     (d : Dot) → is_wanted dots d ≡ true → (d.name == own) ≡ false → set.contains names d.name ≡ true → set.contains m.seen d ≡ false
 
--- a delivery of the turn at this place came less often than it was recorded, its message was sent, and it brings
--- nothing that matters to the node
+-- fewer steps of the turn at this place came than were recorded; and the sender's message of this number was sent, and
+-- brings nothing that matters to the node
 pub record IsIdleAt (c : Cluster) (tables : Tables) (ts : List Turn) (counts : List ℕ) (node place sender number : ℕ) : Type 0 where
   pub turn : Turn
   pub found : slice_get ts place ≡ Some turn

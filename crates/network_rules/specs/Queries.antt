@@ -55,7 +55,7 @@ abbrev pub message_queries : List Dot → ℕ → ℕ → Names → ℕ → List
 message_queries dots n number names zero = []
 message_queries dots n number names (suc i) = message_queries dots n number names i ++ message_query n number names (slice_get dots i)
 
--- asks at each of the first nodes how the dots stand that matter to it
+-- asks at each of the first nodes how the dots of other nodes stand that matter there
 unfoldable pub queries_at_nodes : Tables → List ℕ → ℕ → List Query
 queries_at_nodes t cs zero = []
 queries_at_nodes t cs (suc n) = queries_at_nodes t cs n ++ node_queries t.dots n (matter t n (count_at cs n)) (length t.dots)
@@ -66,7 +66,8 @@ sends_held (Extract names) = true
 sends_held (Answer sender number) = true
 sends_held _ = false
 
--- asks how the dots that matter in a step's message stand there, if the step is an extract or an answer and came
+-- asks how the dots that matter in the message of a step stand in that message, if the step has come and is an extract
+-- or an answer
 abbrev pub sent_queries : Tables → List ℕ → Option Kept → Option Rank → List Query
 sent_queries t cs None x = []
 sent_queries t cs (Some k) None = []

@@ -30,7 +30,8 @@ tables_code =
     code_by (List Dot × (List (List Names) × List (List Names))) (coded× (coded_list dot_code) (coded× rows_code rows_code))
     (λ t. (t.dots, (t.matters, t.carries))) (λ p. record { dots = p.0; matters = p.1.0; carries = p.1.1 }) (λ _. refl)
 
--- the names at a place of a row; past its end, those at its last place; all names, if there is no row
+-- the names at a place of a row; past its end, those at its last place; all names, if there is no row or the row is
+-- empty
 abbrev pub in_row : Option (List Names) → ℕ → Names
 in_row None place = all_names
 in_row (Some row) place = unwrap_or (slice_get row place) (unwrap_or (slice_get row (length row - 1)) all_names)
@@ -57,16 +58,15 @@ is_wanted dots d = list_any (λ e. same_dot e d) dots
 abbrev pub Within : Names → Names → Type 0
 Within one other = (q : ℕ) → set.contains one q ≡ true → set.contains other q ≡ true
 
--- the tables leave out nothing at a step: what matters to the node matters in a message that the step delivers; and
--- what matters in the message that the step sends, and is taken from what the node has, matters to the node before the
--- step
+-- the tables leave out nothing at a step: what matters to the node before its first own step matters in a message that the step delivers;
+-- and what matters in the message that the step sends, and is taken from what the node has, matters to the node before the step
 pub record KeepsAt (t : Tables) (k : Kept) (x : Rank) : Type 0 where
   pub read : (sender number : ℕ) → k.step ≡ Deliver sender number → Within (matter t k.node 0) (carried t sender number)
   pub sent : is_delivery k.step ≡ false → (q : ℕ) → set.contains (carried t k.node x.number) q ≡ true → says k.step q ≡ true →
       set.contains (matter t k.node x.before) q ≡ true
 
--- the tables leave out nothing: what matters to a node after an own step matters before it, and no step leaves out
--- anything
+-- the tables leave out nothing: what matters to a node after an own step matters to it before that step, and at each
+-- recorded step the tables leave out nothing
 pub record IsClosed (steps : List Kept) (ranks : List Rank) (t : Tables) : Type 0 where
   pub falls : (n p : ℕ) → Within (matter t n (suc p)) (matter t n p)
   pub keeps : (place : ℕ) (k : Kept) (x : Rank) → slice_get steps place ≡ Some k → slice_get ranks place ≡ Some x → KeepsAt t k x

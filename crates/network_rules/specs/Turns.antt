@@ -35,7 +35,8 @@ unfoldable pub missing : List Turn → List ℕ → ℕ → ℕ
 missing [] cs i = 0
 missing (t ∷ ts) cs i = (t.recorded - count_at cs i) + missing ts cs (suc i)
 
--- whether a turn is whole: all own steps came, or the delivery came at most twice as often as it was recorded
+-- whether a turn is whole: of own steps all came that were recorded; of deliveries at most twice as many came as were
+-- recorded
 abbrev pub is_whole_by : Option (ℕ × ℕ) → ℕ → ℕ → Bool
 is_whole_by None recorded count = nat_le recorded count
 is_whole_by (Some m) recorded count = nat_le (count - recorded) recorded
@@ -44,7 +45,8 @@ unfoldable pub is_whole : List Turn → List ℕ → ℕ → Bool
 is_whole [] cs i = true
 is_whole (t ∷ ts) cs i = is_whole_by t.delivers t.recorded (count_at cs i) && is_whole ts cs (suc i)
 
--- whether a run may end here, since all that must come has come
+-- whether a run may end here: each turn is whole, up to `lost` of the recorded steps are missing, and up to `again`
+-- steps came beyond those that were recorded
 abbrev pub is_end : List Turn → List ℕ → ℕ → ℕ → Bool
 is_end ts cs lost again = is_whole ts cs 0 && (nat_le (missing ts cs 0) lost && nat_le (extra ts cs 0) again)
 
@@ -67,7 +69,8 @@ is_next_at ts counts again (Some x) = is_next_of (slice_get ts x.turn) x.before 
 abbrev pub is_next : List Turn → List Rank → List ℕ → ℕ → ℕ → Bool
 is_next ts ranks counts again place = is_next_at ts counts again (slice_get ranks place)
 
--- nothing more is delivered at the node: no delivery may come a second time, and all that were recorded there came
+-- nothing more is delivered at the node: no deliveries were recorded there; or all of them came, and no delivery may
+-- come a second time
 abbrev pub AreSpent : List Turn → List ℕ → ℕ → ℕ → Type 0
 AreSpent ts cs again node =
     (i : ℕ) (t : Turn) → slice_get ts i ≡ Some t → t.node ≡ node → is_some t.delivers ≡ true → (again ≡ 0) × (t.recorded ≤ count_at cs i)

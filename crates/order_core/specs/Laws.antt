@@ -25,7 +25,8 @@ pub record OrderOfLaw : Type 0 where
   pub is_one : (ks js : List Kept) → order_of ks ≡ Some js → IsOrderOf ks js
   pub finds : (ks js : List Kept) → IsOrderOf ks js → (found : List Kept) × (order_of ks ≡ Some found)
 
--- if there is a run in which each node does the same as in these steps, they have an order, and its run ends in the same cluster
+-- if there is a run in which each node does the same as in these steps, `order_of` finds an order of them, and the run
+-- of that order ends in the same cluster
 abbrev pub FoundRunLaw : Type 0
 FoundRunLaw = (l : NodeLimits) (count : ℕ) (ks js : List Kept) (c : Cluster) → SameOwn ks js → runs l count js ≡ Ok c →
     (found : List Kept) × (order_of ks ≡ Some found) × (SameOwn ks found) × (runs l count found ≡ Ok c)

@@ -9,7 +9,7 @@ use Rattle.order_core.specs.Turns.{Reads}
 abbrev pub of_mark : Reads Mark
 of_mark = record { node = λ m. m.node; delivers = λ m. m.delivers; sends = λ m. m.sends }
 
--- an order of these marks
+-- an order of these marks: at each turn the first mark that can come next; None if marks are left and none can
 abbrev pub order_of_marks : List Mark → Option (List Mark)
 order_of_marks ms = turns.order_of of_mark ms
 

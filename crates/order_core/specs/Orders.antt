@@ -16,11 +16,12 @@ own ks n = map (λ k. k.step) (own_steps ks n)
 abbrev pub SameOwn : List Kept → List Kept → Type 0
 SameOwn ks js = (n : ℕ) → own ks n ≡ own js n
 
--- whether these steps sent the message, if there is one
+-- whether these steps sent the message; true if there is no message
 abbrev pub is_there : List Kept → Option (ℕ × ℕ) → Bool
 is_there first message = turns.is_there of_step first message
 
--- each delivery and each answer of these steps, which come after the first ones, comes after the send of its message
+-- each delivery and each answer among these steps comes after the send of its message, be that one of these steps or
+-- one of the steps `first`, which came before them
 abbrev pub AreBehind : List Kept → List Kept → Type 0
 AreBehind first [] = Unit {0}
 AreBehind first (k ∷ ks) = (is_there first (delivers k.step) ≡ true) × (AreBehind (first ++ k ∷ []) ks)

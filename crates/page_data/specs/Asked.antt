@@ -1,4 +1,4 @@
--- Which node a call will change, by the machine before the call.
+-- Which node a call would change, by the machine before the call.
 use Rattle.std.specs.Prelude.{ℕ, Option, Some, None}
 use Rattle.bench_core.specs.Acts.{Action, Do, Undo, Back}
 use Rattle.bench_core.specs.Machine.{Machine}
@@ -10,7 +10,7 @@ abbrev pub node_undone : Machine → Option ℕ → Option ℕ
 node_undone m None = None
 node_undone m (Some number) = node_of_step m.state.remaining number
 
--- the node that asks for a step, or the node of the step that the call takes back
+-- for a step the actor who asks for it; for an undo the node of the step that it would take back, if that step remains
 unfoldable pub asked_node : Machine → ℕ → Action → Option ℕ
 asked_node m actor (Do operation) = Some actor
 asked_node m actor (Undo number) = node_undone m (asked_undo m (Undo number))

@@ -33,7 +33,7 @@ clocks_standing m name wanted = filter (stands_so (store_of m) name wanted) (clo
 abbrev pub name_if_any : ℕ → ℕ → ℕ → List ℕ
 name_if_any name clock more = if (clock == 0) && (more == 0) then [] else name ∷ []
 
--- the first names, as far as the message has dots of them
+-- those of the first names of which the message has dots
 unfoldable pub names_in : Message → ℕ → List ℕ
 names_in m zero = []
 names_in m (suc name) = names_in m name ++ name_if_any name (clock_of m.seen name) (more_of m.seen name)
@@ -41,7 +41,7 @@ names_in m (suc name) = names_in m name ++ name_if_any name (clock_of m.seen nam
 abbrev pub hop_by : ℕ → ℕ → ℕ → ℕ → List ℕ
 hop_by name clock here coming = if nat_lt here coming then name ∷ clock ∷ coming ∷ [] else []
 
--- `NAME,CLOCK,STANDING` for a dot, if it stands higher in the message than here: it stands here like that from then on
+-- `NAME,CLOCK,STANDING` for a dot that stands higher in `coming` than in `here`, with its standing in `coming`; else nothing
 abbrev pub hop : Store → Store → ℕ → ℕ → List ℕ
 hop here coming name clock = hop_by name clock (standing here (dot name clock)) (standing coming (dot name clock))
 
@@ -60,13 +60,13 @@ hops_to r m (suc name) = hops_to r m name ++ hops_if (is_other_known r name) r.s
 abbrev pub missed_if : Bool → ℕ → ℕ → ℕ → List ℕ
 missed_if known name clock more = if known || ((clock == 0) && (more == 0)) then [] else name ∷ clock ∷ more ∷ []
 
--- `NAME,CLOCK,MORE` for each of the first names that the node doesn't know: the message has the name's dots up to this clock, and
--- MORE beyond it, and the node keeps none of them
+-- `NAME,CLOCK,MORE` for each of the first names that the node doesn't know and of which the message has dots: the name's context clock
+-- there, and how many clocks its cloud has
 unfoldable pub missed_by : Replica → Message → ℕ → List ℕ
 missed_by r m zero = []
 missed_by r m (suc name) = missed_by r m name ++ missed_if (is_known r name) name (clock_of m.seen name) (more_of m.seen name)
 
--- the hops and misses of a message at a node; nothing if the node or the message is missing
+-- what `hops_to` and `missed_by` give for a message at a node; nothing if the node or the message is missing
 
 abbrev pub message_in : Option Node → ℕ → Option Message
 message_in None number = None

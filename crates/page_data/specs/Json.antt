@@ -7,8 +7,8 @@ use Rattle.std.specs.Char.{digit_char}
 unfoldable pub escaped_byte : ℕ → List ℕ
 escaped_byte b = codes "\\u00" ++ digit_char (b / 16 % 16) ∷ digit_char (b % 16) ∷ []
 
--- a character of a string: `"` and a backslash get a backslash before them; `<`, and what is neither a visible byte nor a space
--- below it, become numbers
+-- a character of a string: `"` and a backslash get a backslash before them; `<`, and each character below a space, becomes a number; each
+-- other one stays
 unfoldable pub string_char : ℕ → List ℕ
 string_char c =
     if c == 34 then codes "\\\"" else (if c == 92 then codes "\\\\" else (if (c == 60) || nat_lt c 32 then escaped_byte c else encode_utf8 c))

@@ -40,7 +40,7 @@ IsPlain text = list_all is_plain text ≡ true
 abbrev pub PlainLaw : Type 0
 PlainLaw = (m : Machine) (consoles : Texts) → IsPlain (page_data m consoles)
 
--- nor do data with further keys, if these have no `<`
+-- no `<` stands in the data with further keys, if none stands in these keys
 abbrev pub PlainWithLaw : Type 0
 PlainWithLaw = (m : Machine) (consoles : Texts) (keys : List ℕ) → IsPlain keys → IsPlain (data_with m consoles keys)
 
@@ -48,7 +48,8 @@ PlainWithLaw = (m : Machine) (consoles : Texts) (keys : List ℕ) → IsPlain ke
 abbrev pub seen_by : Machine → ℕ → List Seen
 seen_by m node = seen_in (node_of m node) (length m.names)
 
--- how the text tells that a call changed its node: the rows that left and joined the list, and what the node has seen since
+-- how the text tells what a call changed at a node: the rows that left and joined its online list, and what changed in what it has seen;
+-- nothing without a node
 abbrev pub change_told : Machine → ℕ → Action → Option ℕ → List ℕ
 change_told m actor act None = []
 change_told m actor act (Some node) =
@@ -59,11 +60,12 @@ pub record EndsWithChange (cast : Cast) (m : Machine) (actor : ℕ) (act : Actio
   pub before : List ℕ
   pub text : call_text cast m actor act ≡ before ++ (change_told m actor act (changed_by m actor act) ++ codes "}")
 
--- `minus` and `plus` of each call are its rows, and `dots` is what was seen; the next two laws are about these
+-- the text of each call ends with the rows that left and joined a node's online list, as `minus` and `plus`, and what changed in what that
+-- node has seen, as `dots`; RowsLaw and DotsLaw are about these
 abbrev pub ChangeLaw : Type 0
 ChangeLaw = (cast : Cast) (m : Machine) (actor : ℕ) (act : Action) → EndsWithChange cast m actor act
 
--- the list, if the call changed this node; else nothing
+-- what is told, if the node that the call changed is this one; else nothing
 abbrev pub of_node : {X : Type 0} → ℕ → Option ℕ → List X → List X
 of_node node None told = []
 of_node node (Some n) told = if n == node then told else []
@@ -73,18 +75,20 @@ unfoldable pub after_calls : Machine → List Event → Machine
 after_calls m [] = m
 after_calls m (e ∷ events) = after_calls (after_act m e.actor e.act) events
 
--- the rows that left a node's list by these calls, and those that joined it
+-- the rows that left a node's online list by these calls
 unfoldable pub gone_by : ℕ → Machine → List Event → List Row
 gone_by node m [] = []
 gone_by node m (e ∷ events) =
     of_node node (changed_by m e.actor e.act) (left_by m e.actor e.act) ++ gone_by node (after_act m e.actor e.act) events
 
+-- the rows that joined a node's online list by these calls
 unfoldable pub come_by : ℕ → Machine → List Event → List Row
 come_by node m [] = []
 come_by node m (e ∷ events) =
     of_node node (changed_by m e.actor e.act) (joined_by m e.actor e.act) ++ come_by node (after_act m e.actor e.act) events
 
--- applied in order, the `minus` and `plus` of the first calls lead to each node's online list after these calls
+-- from a machine that calls lead to: the rows that left and joined a node's online list by further calls come to the step from the list
+-- before these calls to the list after them
 abbrev pub RowsLaw : Type 0
 RowsLaw =
     (m : Machine) (node : ℕ) (events : List Event) → IsReached (config_of m) m.state →
@@ -103,7 +107,8 @@ dots_by node m (e ∷ events) =
     of_node node (changed_by m e.actor e.act) (changes_in (seen_by m node) (node_of (after_act m e.actor e.act) node) (length m.names)) ++
     dots_by node (after_act m e.actor e.act) events
 
--- applied in order, the `dots` of the first calls lead to what each node has seen after these calls
+-- from a machine that calls lead to: the `dots` of further calls, applied to what a node had seen before these calls, give what it has seen
+-- after them
 abbrev pub DotsLaw : Type 0
 DotsLaw =
     (m : Machine) (node : ℕ) (events : List Event) → IsReached (config_of m) m.state →
@@ -134,7 +139,7 @@ pub data Leads (links : List Link) (n : ℕ) : ℕ → Type 0 where
   Itself : Leads links n n
   Next : (before step : ℕ) → Leads links n before → Contains links (record { step = step; before = before }) → Leads links n step
 
--- of two steps that remain after calls, `prev` and `from` lead from the later back to the earlier if the later follows from it
+-- of two steps that remain after calls of a fresh bench: `prev` and `from` lead from step j back to step n if and only if j follows from n
 abbrev pub PastLaw : Type 0
 PastLaw =
     (names : Texts) (limits : Limits) (events : List Event) (n j : ℕ) (x y : Kept) →
@@ -142,12 +147,12 @@ PastLaw =
     find_number (after_calls (opening_machine names limits) events).state.remaining j ≡ Some y →
     Leads (links_by (opening_machine names limits) events) n j ↔ Follows (after_calls (opening_machine names limits) events).state.remaining n j
 
--- how a dot stands by hops, if it stood as `before`: as the last hop of the dot says
+-- how a dot stands by hops: as the last hop of the dot says, or, if it has none, as `before`
 unfoldable pub stands_by : List ℕ → Dot → ℕ → ℕ
 stands_by (name ∷ clock ∷ there ∷ hops) d before = stands_by hops d (if (name == d.name) && (clock == d.clock) then there else before)
 stands_by _ d before = before
 
--- applied to how a dot stood before, the hops of a delivery give how it stands after it, for each dot of the first names
+-- applied to how a dot stood before a delivery, the hops of the delivery give how the dot stands after it, for each dot of the first names
 abbrev pub HopsLaw : Type 0
 HopsLaw =
     (r : Replica) (m : Message) (count : ℕ) (d : Dot) → IsStore r.store → IsStore (store_of m) → AreValid m.seen → d.name < count →

@@ -43,7 +43,7 @@ row_hops standing rows = flat_map (λ row. row.name ∷ row.clock ∷ standing �
 unfoldable pub rows_keys : List Row → List Row → List ℕ
 rows_keys left joined = numbers_key (codes "minus") (row_dots left) ++ numbers_key (codes "plus") (row_dots joined)
 
--- whether a step changes the node's own presences, which its list shows all
+-- whether a step is a join, a leave, a leave all or an update
 abbrev pub is_own : Operation → Bool
 is_own (Join presence) = true
 is_own (Leave pid topic key) = true
@@ -51,14 +51,13 @@ is_own (LeaveAll pid) = true
 is_own (Update presence) = true
 is_own _ = false
 
--- the hops of a step that changes the node's own presences: the rows that left as gone, and those that joined as live; nothing
--- for other steps
+-- the hops of a join, a leave, a leave all or an update: the rows that left as gone, and those that joined as live; nothing for other steps
 unfoldable pub own_keys : Operation → List Row → List Row → List ℕ
 own_keys operation left joined = if is_own operation then numbers_key (codes "hops") (row_hops 2 left ++ row_hops 1 joined) else []
 
 -- what a step reads
 
--- what a delivery of a message changes, and what it misses
+-- what a delivery of a message changes at the node, and what the message has of names that the node doesn't know
 unfoldable pub delivery_keys : Option Node → Option Message → ℕ → List ℕ
 delivery_keys node message count =
     numbers_key (codes "missed") (missed_at node message count) ++ numbers_key (codes "hops") (hops_at node message count)
@@ -67,8 +66,8 @@ abbrev pub arrival_keys : Machine → ℕ → Operation → List ℕ
 arrival_keys m node (Deliver sender number) = delivery_keys (node_of m node) (message_in (node_of m sender) number) (length m.names)
 arrival_keys m node _ = []
 
--- for a step of the node, before it is taken: the step before it, the one that sent what it delivers, and what the delivery
--- changes
+-- for a step of the node, before it is taken: the last remaining step of the node, the step that sent what it delivers, and, if it is a
+-- delivery, `delivery_keys`
 unfoldable pub reads_keys : Machine → ℕ → Operation → List ℕ
 reads_keys m node operation =
     number_key_if (codes "prev") (last_of m.state.remaining node) ++ number_key_if (codes "from") (source_of m.state.remaining operation) ++
@@ -80,7 +79,8 @@ act_reads m actor _ = []
 
 -- what a step sends and makes
 
--- for a broadcast, the clocks of the dots that it carries, with their entries and without; for other messages, the names
+-- for a broadcast, the clocks of the node's own dots in the message, those with an entry and those without; for another send, the names of
+-- which the message has dots
 abbrev pub carried_keys : Operation → Message → ℕ → ℕ → List ℕ
 carried_keys Broadcast m node count =
     numbers_key (codes "live") (clocks_standing m node 1) ++ numbers_key (codes "gone") (clocks_standing m node 2)
@@ -119,7 +119,8 @@ abbrev pub made_keys : Machine → ℕ → Option Presence → List ℕ
 made_keys after node None = []
 made_keys after node (Some p) = made_at (node_of after node) p
 
--- for a step of the node, after it was taken; it took the first rows from the node's online list and gave it the others
+-- for a step of the node, after it was taken: what it sent, the presence that it made, and `own_keys`; `left` and `joined` are the rows
+-- that it took from the node's online list and gave it
 unfoldable pub gives_keys : Machine → ℕ → Operation → List Row → List Row → List ℕ
 gives_keys after node operation left joined =
     sent_keys after node operation ++ made_keys after node (presence_made operation) ++ own_keys operation left joined
@@ -130,7 +131,7 @@ act_gives after actor _ left joined = []
 
 -- what a call changed
 
--- the rows that left and joined the online list of a node, and what the node has seen since; `before` is what it had seen
+-- the rows that left and joined the online list of a node, and what changed in what the node has seen; `before` is what it had seen
 unfoldable pub changed_text : List Row → List Row → List Seen → Option Node → ℕ → List ℕ
 changed_text left joined before node count = rows_keys left joined ++ numbers_key (codes "dots") (changes_in before node count)
 
@@ -144,7 +145,7 @@ taken_text after actor act number reads left joined before =
     taken_head actor number reads ++ act_gives after actor act left joined ++
     changed_text left joined before (node_of after actor) (length after.names)
 
--- the new text is the old one with that of the last step, which took the first rows from the online list and gave it the others
+-- the new text is the old one and the text of step `number`, which took some rows from its node's online list and gave it others
 pub record Tells (after : Machine) (actor : ℕ) (act : Action) (number : ℕ) (reads : List ℕ) (before : List Seen) (old new : List ℕ) : Type 0 where
   pub left : List Row
   pub joined : List Row
@@ -175,7 +176,7 @@ undone_of m after number node =
 unfoldable pub undone_keys : Machine → Machine → ℕ → List ℕ
 undone_keys m after number = undone_of m after number (node_of_step m.state.remaining number)
 
--- the step whose undo is refused, and what holds it
+-- the step whose undo is refused and the one that holds it, if that is the fault; else nothing
 abbrev pub held_keys : Fault → List ℕ
 held_keys (HasConsequence step held_by) = numbers_key (codes "held") (step ∷ held_by ∷ [])
 held_keys _ = []
@@ -184,7 +185,7 @@ held_keys _ = []
 unfoldable pub refused_keys : Fault → List ℕ
 refused_keys fault = text_key (codes "no") (fault_text fault) ++ held_keys fault
 
--- what a call with this reply changed
+-- what a call with this reply changed, or why it was refused
 abbrev pub outcome_keys : Machine → Machine → ℕ → Action → Reply → List ℕ
 outcome_keys m after actor act (Taken number) = taken_keys m after actor act number
 outcome_keys m after actor act (Undone number) = undone_keys m after number
@@ -198,7 +199,7 @@ unfoldable pub call_text : Cast → Machine → ℕ → Action → List ℕ
 call_text cast m actor act =
     asked_text cast actor act ++ outcome_keys m (after_act m actor act) actor act (reply_of m actor act) ++ codes "}"
 
--- the calls from this place on, each on the machine that those before it left
+-- the calls from this place on, each asked of the machine that the calls before it led to
 unfoldable pub calls_text : Cast → Machine → ℕ → List Event → List ℕ
 calls_text cast m place [] = []
 calls_text cast m place (e ∷ events) =
@@ -209,7 +210,7 @@ unfoldable pub texts_text : ℕ → Texts → List ℕ
 texts_text place [] = []
 texts_text place (text ∷ texts) = comma_at place ++ string_text text ++ texts_text (place + 1) texts
 
--- what stands before the calls
+-- the beginning of the data: its version, and the names of the nodes
 unfoldable pub nodes_text : Texts → List ℕ
 nodes_text nodes = codes "{\"version\":1,\"nodes\":[" ++ texts_text 0 nodes ++ codes "]"
 

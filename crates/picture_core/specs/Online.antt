@@ -10,7 +10,7 @@ use Rattle.report_core.specs.Shown.{rows_of}
 use Rattle.picture_core.specs.Plans.{across, down}
 use Rattle.picture_core.specs.declared.online.Switch.{Switch}
 
--- a topic and key, and the node that is asked about, or none for each
+-- a topic and key, and the node that is asked about; without one, each node is
 pub record Asked : Type 0 where
   pub node : Option ℕ
   pub topic : List ℕ
@@ -23,13 +23,13 @@ is_asked asked row = bytes_eq row.topic asked.topic && bytes_eq row.key asked.ke
 unfoldable pub lists : Asked → List Row → Bool
 lists asked rows = list_any (is_asked asked) rows
 
--- a switch at this row, if the node listed some before and doesn't now, or the other way round
+-- a switch at this row, if the node listed the topic and key before and doesn't now, or lists them now and didn't before
 abbrev pub switch_if : ℕ → ℕ → Bool → Bool → List Switch
 switch_if row node was now =
     if was then (if now then [] else record { row = row; node = node; begins = false } ∷ [])
     else (if now then record { row = row; node = node; begins = true } ∷ [] else [])
 
--- the switch of a call at this row that changed the online list of the node from the first of these to the second
+-- the switch at this row of a call that changed the node's online list from `before` to `after`, if there is one
 abbrev pub switch_of : Asked → ℕ → Option ℕ → List Row → List Row → List Switch
 switch_of asked row None before after = []
 switch_of asked row (Some node) before after = switch_if row node (lists asked before) (lists asked after)
@@ -38,7 +38,7 @@ unfoldable pub switch_at : Option Asked → ℕ → Option ℕ → List Row → 
 switch_at None row changed before after = []
 switch_at (Some asked) row changed before after = switch_of asked row changed before after
 
--- the switch of a call that a machine is asked
+-- the switch of a call that a machine is asked, if there is one
 abbrev pub switch_by : Option Asked → Machine → ℕ → Event → List Switch
 switch_by asked m row e =
     switch_at asked row (changed_by m e.actor e.act) (rows_of m (changed_by m e.actor e.act))
@@ -47,17 +47,17 @@ switch_by asked m row e =
 abbrev pub with_call : Option Asked → Machine → ℕ → Event → List Switch → List Switch
 with_call asked m row e switches = switches ++ switch_by asked m row e
 
--- the path of a switch: the pen goes to where a node begins to list some, and draws to where it ends
+-- the path of a switch: the pen goes to where the node begins to list the topic and key, and draws to where it stops listing them
 abbrev pub switch_path : ℕ → Switch → List ℕ
 switch_path nodes t =
     if t.begins then codes "M" ++ decimal (across nodes t.node) ++ codes " " ++ decimal (down t.row)
     else codes "V" ++ decimal (down t.row)
 
--- the path to the last row, if the node still lists some
+-- the path to the end of the drawn rows, if the node still lists the topic and key
 abbrev pub end_path : Bool → ℕ → List ℕ
 end_path listing last = if listing then codes "V" ++ decimal (20 * last) else []
 
--- the path of these switches, from where the pen is; `listing` says whether the node lists some there
+-- the path of the node's switches among these, from where the pen is; `listing` says whether the node lists the topic and key there
 unfoldable pub switches_path : ℕ → ℕ → ℕ → Bool → List Switch → List ℕ
 switches_path nodes node last listing [] = end_path listing last
 switches_path nodes node last listing (t ∷ switches) =

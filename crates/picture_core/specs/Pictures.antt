@@ -68,7 +68,8 @@ abbrev pub last_row : List Event → Option ℕ → ℕ
 last_row events None = length events
 last_row events (Some to) = calls_before true to events
 
--- the rows from that of step `from` to the one before the first step after `to`
+-- the rows from that of the first step numbered `from` or above, to the one before that of the first step numbered above `to`; from the
+-- first row on without `from`, to the last one without `to`
 unfoldable pub range_of : List Event → Option ℕ → Option ℕ → Range
 range_of events from to = record { first = first_row events from; last = last_row events to }
 
@@ -77,7 +78,7 @@ range_of events from to = record { first = first_row events from; last = last_ro
 abbrev pub longest_name : Texts → ℕ
 longest_name names = fold (λ longest name. with_length longest (length name)) 0 names
 
--- the names stand above the lanes
+-- how high the part is in which the names stand, above the lanes
 unfoldable pub head_height : Texts → ℕ
 head_height names = 20 + wide (longest_name names)
 
@@ -99,7 +100,7 @@ abbrev pub is_of : Option ℕ → ℕ → Bool
 is_of None node = true
 is_of (Some n) node = n == node
 
--- the thick parts of the lanes of the nodes that are asked about
+-- the thick parts of a node's lane, if the node is asked about
 abbrev pub bar_at : Option Asked → ℕ → ℕ → List Switch → ℕ → Tree
 bar_at None nodes last switches node = Nothing
 bar_at (Some asked) nodes last switches node = if is_of asked.node node then bar (bar_path nodes node last switches) else Nothing
@@ -127,7 +128,7 @@ switches m asked = switches_from asked (opened m) 0 m.state.history []
 unfoldable pub longest : Machine → Range → Texts → ℕ
 longest m range consoles = longest_from range consoles (opened m) 0 m.state.history 0
 
--- the lanes end where the words begin
+-- how wide the picture is: the words, which have at most this many bytes, begin where one more lane would be
 unfoldable pub width : ℕ → ℕ → ℕ
 width nodes bytes = across nodes nodes + wide bytes + 8
 
@@ -165,7 +166,7 @@ drawing names range asked switches bytes messages rows =
     (beside (lanes_from range (length names) 0 names)
     (beside messages rows))))))
 
--- the text of that picture, with these texts in place of its messages and its rows
+-- the text of `drawing`, with these texts in place of its messages and its rows
 unfoldable pub text_around : Texts → Range → Option Asked → List Switch → ℕ → List ℕ → List ℕ → List ℕ
 text_around names range asked switches bytes messages rows =
     opening_text (codes "svg") (size (width (length names) bytes) (head_height names + height range)) ++ text_of front ++

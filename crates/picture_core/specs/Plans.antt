@@ -21,7 +21,7 @@ down row = 20 * row + 10
 unfoldable pub aside : ℕ → ℕ → ℕ
 aside nodes step = 6 + 3 * (step % slots nodes)
 
--- where that message waits for a node, on the side from which it comes
+-- where the message of a step waits for a node: beside the node's lane, on the side of the sender
 unfoldable pub waits_at : ℕ → ℕ → ℕ → ℕ → ℕ
 waits_at nodes sender node step =
     if nat_lt sender node then across nodes node - aside nodes step else across nodes node + aside nodes step

@@ -28,7 +28,7 @@ is_drawn range row = nat_le range.first row && nat_lt row range.last
 abbrev pub is_seen : Range → ℕ → ℕ → Bool
 is_seen range from to = nat_lt from range.last && nat_le range.first to
 
--- the message from the step that sent it, if that remained, to the one that delivers it
+-- the message from the step that sent it to the one that delivers it; nothing if no remaining step sent it, or if it isn't seen
 abbrev pub message_between : ℕ → List Drawn → Range → ℕ → ℕ → ℕ → ℕ → Option ℕ → Tree
 message_between nodes steps range row number node sender None = Nothing
 message_between nodes steps range row number node sender (Some source) =
@@ -42,7 +42,7 @@ message_by nodes steps range row number node remaining None = Nothing
 message_by nodes steps range row number node remaining (Some m) =
     message_between nodes steps range row number node m.0 (sender_of remaining m.0 m.1)
 
--- the message that a step delivers, while these steps remained
+-- the message that a step delivers; `remaining` has the steps that remained before it
 unfoldable pub message_to : ℕ → List Drawn → Range → ℕ → ℕ → ℕ → List Kept → Operation → Tree
 message_to nodes steps range row number node remaining operation =
     message_by nodes steps range row number node remaining (delivers operation)
@@ -57,7 +57,7 @@ message_of_reply nodes steps range row node remaining act (Taken number) = messa
 message_of_reply nodes steps range row node remaining act (Undone number) = Nothing
 message_of_reply nodes steps range row node remaining act (Refused fault) = Nothing
 
--- the message that a recorded call delivered, while these steps remained before it
+-- the message that a recorded call delivered; `remaining` has the steps that remained before the call
 unfoldable pub message_of : ℕ → List Drawn → Range → List Kept → ℕ → Event → Tree
 message_of nodes steps range remaining row e = message_of_reply nodes steps range row e.actor remaining e.act e.reply
 
@@ -67,11 +67,12 @@ looks steps (Taken number) = kind_of (step_at steps number).shade
 looks steps (Undone number) = kinds.Back
 looks steps (Refused fault) = kinds.Refused
 
--- the node of the step that was taken back; and the node that a call with this reply changed
+-- the node of a remaining step that a call takes back, if it takes one back
 abbrev pub node_undone : Machine → Option ℕ → Option ℕ
 node_undone m None = None
 node_undone m (Some number) = node_of_step m.state.remaining number
 
+-- the node that a call with this reply changed; `of_it` is the node of the step that was taken back
 abbrev pub node_changed : ℕ → Reply → Option ℕ → Option ℕ
 node_changed actor (Taken number) of_it = Some actor
 node_changed actor (Undone number) of_it = of_it
@@ -127,20 +128,22 @@ rows_from nodes steps range consoles asked row (e ∷ events) =
     beside (row_of nodes steps range consoles asked row e)
     (rows_from nodes steps range consoles (after_act asked e.actor e.act) (row + 1) events)
 
--- the most bytes that the words of a drawn row have, and at least `longest`; a line of a script has at most 4,096
+-- this many bytes, but no more than a line of a script may have
 abbrev pub cut_length : ℕ → ℕ
 cut_length bytes = if nat_lt longest_line bytes then longest_line else bytes
 
+-- the greater of `longest` and these bytes, of which no more are counted than a line of a script may have
 unfoldable pub with_length : ℕ → ℕ → ℕ
 with_length longest bytes = if nat_lt longest (cut_length bytes) then cut_length bytes else longest
 
--- the most bytes so far, with the words of this row
+-- the most bytes so far, with the words of this row, if it is drawn
 unfoldable pub with_words : Range → ℕ → List ℕ → ℕ → ℕ
 with_words range row words longest = if is_drawn range row then with_length longest (length words) else longest
 
 abbrev pub with_row : Range → Texts → Machine → ℕ → Event → ℕ → ℕ
 with_row range consoles asked row e longest = with_words range row (words_of asked consoles e) longest
 
+-- the most bytes that the words of a drawn row have, counted as `with_length` does, and at least `longest`
 unfoldable pub longest_from : Range → Texts → Machine → ℕ → List Event → ℕ → ℕ
 longest_from range consoles asked row [] longest = longest
 longest_from range consoles asked row (e ∷ events) longest =

@@ -10,12 +10,13 @@ use Rattle.picture_core.specs.declared.shade.Shade.TheVariants.{Remains, Painted
 abbrev pub attribute : List ℕ → List ℕ → Attribute
 attribute name value = record { name = name; value = value }
 
--- how a call looks, and the class of its shapes: a step by its shade, a call that takes a step back, or a refused one
+-- how a call that took a step looks, by the step's shade
 abbrev pub kind_of : Shade → Kind
 kind_of Remains = kinds.Step
 kind_of Painted = kinds.Future
 kind_of Undone = kinds.Undone
 
+-- the class of a call's shapes, by how the call looks
 abbrev pub class_of : Kind → List ℕ
 class_of kinds.Step = codes "step"
 class_of kinds.Future = codes "future"
@@ -31,14 +32,15 @@ heading title = leaf (codes "title") [] title
 unfoldable pub titled : List ℕ → List Attribute → List ℕ → Tree
 titled tag attributes title = element tag attributes (heading title)
 
--- a path of a class, and one with a title
+-- a path of a class
 abbrev pub path_of : List ℕ → List ℕ → Tree
 path_of class path = leaf (codes "path") (attribute (codes "class") class ∷ attribute (codes "d") path ∷ []) []
 
+-- a path of a class, with a title
 abbrev pub titled_path : List ℕ → List ℕ → List ℕ → Tree
 titled_path class path title = titled (codes "path") (attribute (codes "class") class ∷ attribute (codes "d") path ∷ []) title
 
--- the name of a node, written upwards above its lane
+-- how a text is turned that is written upwards from a place
 unfoldable pub upwards : ℕ → ℕ → List ℕ
 upwards right down = codes "translate(" ++ decimal right ++ codes " " ++ decimal down ++ codes ")rotate(-90)"
 
@@ -48,6 +50,7 @@ name_place nodes node height = upwards (across nodes node + 4) (height - 8)
 abbrev pub name_at : List ℕ → List ℕ → Tree
 name_at place name = leaf (codes "text") (attribute (codes "class") (codes "name") ∷ attribute (codes "transform") place ∷ []) name
 
+-- the name of a node, written upwards above its lane
 unfoldable pub lane_name : ℕ → ℕ → ℕ → List ℕ → Tree
 lane_name nodes node height name =
     name_at (name_place nodes node height) name
@@ -83,7 +86,7 @@ unfoldable pub message : ℕ → Kind → ℕ × ℕ → ℕ × ℕ → ℕ → 
 message nodes kind from to source number =
     titled_path (message_class kind) (message_path nodes from to source) (message_title source number)
 
--- a dot
+-- a disc on a node's lane, in the middle of a row
 unfoldable pub dot_sign : ℕ → ℕ → ℕ → Kind → List ℕ → Tree
 dot_sign nodes node row kind title =
     titled (codes "circle")
@@ -91,7 +94,7 @@ dot_sign nodes node row kind title =
     attribute (codes "cy") (decimal (down row)) ∷ attribute (codes "r") (codes "4") ∷ [])
     title
 
--- a cross where a step was taken back
+-- the path of a cross on a node's lane, in the middle of a row
 unfoldable pub cross_path : ℕ → ℕ → ℕ → List ℕ
 cross_path nodes node row = codes "M" ++ decimal (across nodes node - 4) ++ codes " " ++ decimal (down row - 4) ++ codes "l8 8m0 -8l-8 8"
 
@@ -99,16 +102,18 @@ unfoldable pub cross_sign : ℕ → ℕ → ℕ → List ℕ → Tree
 cross_sign nodes node row title =
     titled_path (codes "back") (cross_path nodes node row) title
 
+-- the mark of a call: a cross if it took a step back, else a disc
 abbrev pub mark : ℕ → ℕ → ℕ → Kind → List ℕ → Tree
 mark nodes node row kinds.Back title = cross_sign nodes node row title
 mark nodes node row kind title = dot_sign nodes node row kind title
 
--- the number of a step before its row, and the words of a call after it
+-- the number of a step, before its row
 unfoldable pub number_label : ℕ → ℕ → Tree
 number_label row number =
     leaf (codes "text") (attribute (codes "class") (codes "number") ∷ attribute (codes "x") (codes "50") ∷
     attribute (codes "y") (decimal (down row + 4)) ∷ []) (decimal number)
 
+-- the words of a call, behind its row
 unfoldable pub words_label : ℕ → ℕ → Kind → List ℕ → Tree
 words_label nodes row kind words =
     leaf (codes "text") (attribute (codes "class") (class_of kind) ∷ attribute (codes "x") (decimal (across nodes nodes)) ∷

@@ -18,12 +18,12 @@ abbrev pub fault_of_word : WordFault → DrawFault
 fault_of_word words.BadWord = faults.NoWord
 fault_of_word words.OutOfMemory = faults.OutOfMemory
 
--- the number of the node of this name, if one is named
+-- `node` is the number of the node of this name; or no name is given, and `node` is none
 abbrev pub IsNode : Machine → Option (List ℕ) → Option ℕ → Type 0
 IsNode m None node = node ≡ None
 IsNode m (Some name) node = (number_in m.names name ≡ node) × IsSome node
 
--- a topic and a key that are words, at the node of a name or at each
+-- what is asked: a topic and a key that are words, at the node of a name, or at each node
 pub record AsksOf (m : Machine) (p : Presence) (asked : Asked) : Type 0 where
   pub node : IsNode m (option_copied p.node) asked.node
   pub topic : asked.topic ≡ p.topic.now
@@ -46,11 +46,12 @@ pub record IsPicture (m : Machine) (consoles : Texts) (view : View) (text : List
 unfoldable pub whole_picture : Machine → Texts → List ℕ
 whole_picture m consoles = text_of (picture m consoles (painted_of m.state None) (range_of m.state.history None None) None)
 
--- why there is no picture: no node has the name; the topic or the key is no word; or memory was refused
+-- a name is given that no node has
 abbrev pub IsNoNode : Machine → Option (List ℕ) → Type 0
 IsNoNode m None = ⊥
 IsNoNode m (Some name) = number_in m.names name ≡ None
 
+-- why there is no picture: no node has the name; the topic or the key is no word; or memory was refused
 abbrev pub Refuses : Machine → Option Presence → DrawFault → Type 0
 Refuses m presence faults.OutOfMemory = ⊤
 Refuses m None fault = ⊥

@@ -20,9 +20,9 @@ use Rattle.program_core.specs.declared.fault.ProgramFault.TheVariants as faults
 abbrev pub is_full : Machine → Bool
 is_full m = nat_lt (free_places (config_of m) m.state) 2
 
--- what is made of the events: where the bench and the real nodes part, if they do; the session of the bench that they leave; its
--- page, with what the logs tell besides its calls; or else their script. And the lines that are left out, and whether a bench that
--- the text holds is full, so that later steps may be missing in it
+-- what is made of the events, by what was chosen: a check, which tells where the bench and the real nodes part; the session of the bench
+-- that the events lead to; that bench's page, with what the logs tell besides its calls; or else the script of the events. And the lines
+-- that are left out, and whether the bench in a session or on a page is full, so that later steps may be missing there
 abbrev pub IsMade : Bool → Bool → Bool → Form → Limits → List ℕ → List ℕ → Bool → List ℕ → Bool → Type 0
 IsMade true lines lenient form limits input text differs left_out full = IsCheckOf lenient limits input text differs left_out × (full ≡ false)
 IsMade false lines lenient Session limits input text differs left_out full =
@@ -32,7 +32,7 @@ IsMade false lines lenient Page limits input text differs left_out full =
 IsMade false lines lenient _ limits input text differs left_out full =
     (differs ≡ false) × (m : Machine) × IsImported lenient lines limits input text m left_out × (full ≡ false)
 
--- the text is what is printed, and the bench and the real nodes part or not
+-- the text is what is printed, and `differs` says whether the bench and the real nodes part
 abbrev pub PrintsImport : Bool → Bool → Bool → Form → Limits → List ℕ → Bool → List ℕ → Type 0
 PrintsImport check lines lenient form limits input differs text =
     (left_out : List ℕ) × (full : Bool) × IsMade check lines lenient form limits input text differs left_out full
@@ -45,7 +45,7 @@ EndsAsMade text differs (Err faults.Differs) old new = (differs ≡ true) × App
 EndsAsMade text differs (Err (faults.WriteFault written)) old new = (written < length text) × Appends old new (take written text)
 EndsAsMade text differs (Err _) old new = ⊥
 
--- the input can't be read as events: it is too long
+-- why the input can't be read as events: it has too many bytes, or a read failed, or memory was refused
 abbrev pub RefusesEvents : List ℕ → ProgramFault → Type 0
 RefusesEvents input faults.LongImport = 67108864 < length input
 RefusesEvents input faults.ReadFault = ⊤
@@ -63,7 +63,7 @@ IsUnmade false lines lenient Session limits input fault = IsImportFault lenient 
 IsUnmade false lines lenient Page limits input fault = IsImportFault lenient input fault
 IsUnmade false lines lenient _ limits input fault = IsRefused lenient lines limits input fault
 
--- why nothing is printed of the input: it has too many bytes, or nothing is made of its events
+-- why nothing is printed of the input: nothing is made of its events, or it has too many bytes, or a read failed, or memory was refused
 abbrev pub RefusesImport : Bool → Bool → Bool → Form → Limits → List ℕ → ProgramFault → Type 0
 RefusesImport check lines lenient form limits input (faults.Import fault) = IsUnmade check lines lenient form limits input fault
 RefusesImport check lines lenient form limits input faults.LongImport = 67108864 < length input
@@ -95,14 +95,14 @@ TellsLines left_out full old new = (count : ℕ) × Appends old new (take count 
 abbrev pub TellsAll : List ℕ → Bool → Bool → Option (List ℕ) → Option (List ℕ) → Type 0
 TellsAll left_out full lost old new = lost ≡ false → Appends old new (left_lines left_out ++ full_line full)
 
--- to the errors went all lines that tell what is left out of what is made, and whether it is full, unless a write failed
+-- to the errors went all lines that tell what is left out of what is made, and whether its bench is full, unless a write failed
 abbrev pub TellsMade : Bool → Bool → Bool → Form → Limits → Option (List ℕ) → Bool → Option (List ℕ) → Option (List ℕ) → Type 0
 TellsMade check lines lenient form limits None lost old new = ⊤
 TellsMade check lines lenient form limits (Some input) lost old new =
     (text : List ℕ) × (differs : Bool) × (left_out : List ℕ) × (full : Bool)
     × IsMade check lines lenient form limits input text differs left_out full × TellsAll left_out full lost old new
 
--- to the errors went nothing, or a beginning of the lines that tell what is left out of what is made, and whether it is full
+-- to the errors went nothing, or a beginning of the lines that tell what is left out of what is made, and whether its bench is full
 abbrev pub TellsMissing : Bool → Bool → Bool → Form → Limits → Option (List ℕ) → Option (List ℕ) → Option (List ℕ) → Type 0
 TellsMissing check lines lenient form limits None old new = ⊤
 TellsMissing check lines lenient form limits (Some input) old new =

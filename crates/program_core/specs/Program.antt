@@ -127,14 +127,16 @@ abbrev pub IsSessionAt : Option (List ℕ) → Machine → Type 0
 IsSessionAt None bench = ⊤
 IsSessionAt (Some input) bench = IsSession input bench
 
--- why no script is read from the input: it has this first fault. `FailsAs` says that a read fault comes if a read failed
+-- why no script is read from the input: it has this first fault, or a read failed, or memory was refused; `FailsAs` says that a read fault
+-- comes if a read failed
 abbrev pub RefusesScript : List ℕ → ProgramFault → Type 0
 RefusesScript input (faults.Script fault) = script_of input ≡ Err fault
 RefusesScript input faults.ReadFault = ⊤
 RefusesScript input faults.OutOfMemory = ⊤
 RefusesScript input fault = ⊥
 
--- why no session is read from the input: it is too long, or it is no session, and the fault says why
+-- why no session is read from the input: it is no session, and the fault says why; or it has too many bytes; or a read failed, or memory
+-- was refused
 abbrev pub RefusesSession : List ℕ → ProgramFault → Type 0
 RefusesSession input (faults.Session fault) = Refuses input fault
 RefusesSession input faults.LongSession = 67108864 < length input
@@ -144,8 +146,8 @@ RefusesSession input fault = ⊥
 
 -- a script or a session
 
--- whether the input should be a session: whether its first byte that isn't JSON's space is `{`; this looks at no more of the input
--- than a session may have, and one byte
+-- whether the input should be a session: whether its first byte that isn't JSON's space is `{`, where only as many bytes are looked at as a
+-- session may have, and one more
 unfoldable pub is_for_session : List ℕ → Bool
 is_for_session input = begins_object (take 67108865 input)
 
@@ -237,8 +239,8 @@ abbrev pub shown : Form → List ℕ → Machine → List ℕ
 shown Session report bench = session_text bench
 shown _ report bench = report
 
--- the text is what the subcommand prints for the input: for the bench of a script, of a session, or of either; or at a prompt,
--- where it is also the report of a script without faults
+-- the text is what the subcommand prints for the input: for the bench of a script, of a session, or of either; for the events of logs, if
+-- the bench and the real nodes don't part; or at a prompt, where it is also the report of a script without faults
 abbrev pub Prints : Subcommand → Form → Limits → List ℕ → List ℕ → Type 0
 Prints (Play strict) form limits input text = IsOkAnd (script_of input) (λ s. PrintsPlay form limits s text)
 Prints Race form limits input text = IsOkAnd (script_of input) (λ s. (m : Machine) × IsRaceOf limits s m × (text ≡ shown form (history_text m) m))
@@ -254,7 +256,7 @@ Prints Page form limits input text = (m : Machine) × (consoles : Texts) × IsRu
 Prints (Explain question) form limits input text = (m : Machine) × IsBenchOf limits input m × IsExplanation m (question_of question) text
 Prints (Whatif asked) form limits input text = (m : Machine) × IsBenchOf limits input m × TellsWhatif m asked.question asked.change text
 
--- the text says that the bench and the real nodes part
+-- the text is what a check of an import prints, and the bench and the real nodes part
 abbrev pub PrintsApart : Subcommand → Form → Limits → List ℕ → List ℕ → Type 0
 PrintsApart (Import wanted) form limits input text = PrintsImport wanted.check wanted.lines wanted.lenient form limits input true text
 PrintsApart (Play strict) form limits input text = ⊥
@@ -273,7 +275,7 @@ EndsAsText text (Ok _) old new = Appends old new text
 EndsAsText text (Err (faults.WriteFault written)) old new = (written < length text) × Appends old new (take written text)
 EndsAsText text (Err fault) old new = ⊥
 
--- a prompt has faults of its own, and no others; `EndsSoon` says what went out before one
+-- the command is a prompt, so that it may end with a fault of a prompt; `EndsSoon` says what went out before one
 abbrev pub HasPrompt : Subcommand → Type 0
 HasPrompt (Play strict) = ⊥
 HasPrompt Race = ⊥
@@ -286,7 +288,7 @@ HasPrompt Page = ⊥
 HasPrompt (Explain question) = ⊥
 HasPrompt (Whatif asked) = ⊥
 
--- the first act that was refused, if that is a fault
+-- `refused` is the first act that was refused, if `--strict` makes that a fault; else none
 abbrev pub Tells : Subcommand → Limits → List ℕ → Option Refused → Type 0
 Tells (Play strict) limits input refused = IsOkAnd (script_of input) (λ s. refused ≡ refused_line strict limits s)
 Tells (Load strict) limits input refused = (m : Machine) × IsSession input m × (refused ≡ refused_act strict m)
@@ -299,15 +301,15 @@ Tells Page limits input refused = refused ≡ None
 Tells (Explain question) limits input refused = refused ≡ None
 Tells (Whatif asked) limits input refused = refused ≡ None
 
--- the calls of the input's bench are no script, and one was asked for
+-- a script was asked for, and that of the calls of the input's bench isn't read as these calls, for this reason
 abbrev pub IsUntold : Subcommand → Form → Limits → List ℕ → TranscriptFault → Type 0
 IsUntold (Play strict) ScriptForm limits input fault = IsOkAnd (script_of input) (λ s. RefusesScriptOf (played limits s) s.cast.consoles fault)
 IsUntold (Load strict) ScriptForm limits input fault = (m : Machine) × IsSession input m × RefusesScriptOf m (free_consoles m) fault
 IsUntold _ form limits input fault = ⊥
 
--- what went out, by the result: what is printed for the input; its first bytes, if a write failed; and else nothing, and the
--- fault is the input's. That an act was refused, and that the bench and the real nodes part, are faults that come after all of
--- the text
+-- what went out, by the result: what is printed for the input; its first bytes, if a write failed; and else nothing, and the fault is the
+-- input's. That an act was refused, and that the bench and the real nodes part, are faults that come after all of the text. Of a prompt's
+-- fault this says only that the command is a prompt
 abbrev pub Ends : Subcommand → Form → Limits → List ℕ → Result (Unit {0}) ProgramFault → Option (List ℕ) → Option (List ℕ) → Type 0
 Ends command form limits input (Ok u) old new = (text : List ℕ) × Prints command form limits input text × Appends old new text × Tells command limits input None
 Ends command form limits input (Err (faults.Refused act)) old new =
@@ -356,7 +358,8 @@ IsUnwritten (faults.Transcript fault) = ⊥
 IsUnwritten faults.Differs = ⊥
 IsUnwritten _ = ⊤
 
--- want of memory never comes as a fault of the input
+-- want of memory comes as no fault of a script, a session, a race, an explanation, a picture, an import, a question for changes, or calls
+-- as a script
 abbrev pub TellsMemory : ProgramFault → Type 0
 TellsMemory (faults.Script fault) = fault.kind ≢ kinds.OutOfMemory
 TellsMemory (faults.Session fault) = fault ≢ sessions.OutOfMemory
@@ -387,7 +390,7 @@ TellsAside Page form limits input old new = Keeps old new
 TellsAside (Explain question) form limits input old new = Keeps old new
 TellsAside (Whatif asked) form limits input old new = TellsTried old new
 
--- the outcome is a fault that came before anything was printed
+-- the outcome is a fault other than those that `IsUnwritten` excludes
 abbrev pub IsEarly : Result (Unit {0}) ProgramFault → Type 0
 IsEarly (Ok _) = ⊥
 IsEarly (Err fault) = IsUnwritten fault
@@ -437,7 +440,7 @@ abbrev pub TellsBehind : Bool → Limits → Subcommand → Form → Option (Lis
 TellsBehind terminal limits command form input lost old new =
     (middle : Option (List ℕ)) × Announces terminal command old middle × TellsWhole command form limits input lost middle new
 
--- what goes to the errors after `input_line`: the signs of a prompt on a terminal
+-- what goes to the errors after `input_line`: for a prompt its signs, if it is on a terminal; for another command what `TellsAside` says
 abbrev pub TellsOn : Bool → Limits → Subcommand → Form → Option (List ℕ) → Option (List ℕ) → Option (List ℕ) → Type 0
 TellsOn terminal limits Step form input old new = Shows terminal language limits input old new
 TellsOn terminal limits command form input old new = TellsAside command form limits input old new
@@ -466,11 +469,11 @@ pub record Exits (choice : Choice) (input left : Option (List ℕ)) (limits : Li
   pub early : EndsSoon choice.command limits outcome input left old new
   pub failed : FailsAs outcome before after
 
--- help or the version was printed; or a beginning of it, if a write failed
+-- the status once help or the version was asked for: 0; or 3, which is that of a failed write
 abbrev pub PrintsHelp : ℕ → Type 0
 PrintsHelp status = (status ≡ 0) ⊎ (status ≡ 3)
 
--- words that choose nothing get help or the version; or a fault, and then nothing went out
+-- words that choose nothing get help or the version, and then only the status is said; or a fault, and then nothing went out
 abbrev pub EndsRefused : ErrorKind → ℕ → Option (List ℕ) → Option (List ℕ) → Type 0
 EndsRefused refusals.DisplayHelp status old new = PrintsHelp status
 EndsRefused refusals.DisplayVersion status old new = PrintsHelp status
@@ -488,11 +491,11 @@ EndsProgram words input left limits status old new before after =
     ((choice : Choice) × Chooses words choice × Exits choice input left limits status old new before after)
     ⊎ ((kind : ErrorKind) × IsRefusal words kind × EndsRefused kind status old new × Keeps input left)
 
--- a program that ends well wrote nothing to the errors, unless its words choose what may go there
+-- nothing went to the errors, or what the command that the words choose may write there, with the usual limits
 abbrev pub IsQuiet : List (List ℕ) → Option (List ℕ) → Option (List ℕ) → Option (List ℕ) → Type 0
 IsQuiet words input old new = Keeps old new ⊎ ((choice : Choice) × Chooses words choice × TellsAside choice.command choice.form usual input old new)
 
--- a program on a terminal, or not, that ends well wrote nothing to the errors, unless its words choose what may go there
+-- nothing went to the errors, or what the command that the words choose may write there, on a terminal or not
 abbrev pub IsQuietOn : Bool → Limits → List (List ℕ) → Option (List ℕ) → Option (List ℕ) → Option (List ℕ) → Type 0
 IsQuietOn terminal limits words input old new =
     Keeps old new ⊎ ((choice : Choice) × Chooses words choice × TellsBeside terminal limits choice.command choice.form input old new)

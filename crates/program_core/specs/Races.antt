@@ -29,13 +29,13 @@ pub record IsRaceOf (limits : Limits) (s : Script) (m : Machine) : Type 0 where
   pub agrees : Agrees [] m.state.history lines receipts
   pub replies : AreMachineReplies (config_of m) m.state.history receipts
 
--- a race of these lines has this fault: before it begins, or later
+-- a race of the script's act lines has this fault: before it begins, or later
 abbrev pub RefusesLines : Limits → Script → RaceFault → Type 0
 RefusesLines limits s fault =
     (lines : List (ℕ × Action)) × (with_calls [] s.lines ≡ Ok lines) ×
     MatchOption (refusal_of (opening_machine s.cast.nodes limits) (actors_of s) lines) (IsLate fault) (λ early. fault ≡ early)
 
--- a race of the script has this fault: a line is no act line, or the race of its lines has it
+-- a race of the script has this fault: a line is no act line; the race of its act lines has the fault; or memory was refused
 abbrev pub RefusesRaceOf : Limits → Script → ProgramFault → Type 0
 RefusesRaceOf limits s (faults.Script fault) = with_calls [] s.lines ≡ Err fault
 RefusesRaceOf limits s (faults.Race fault) = RefusesLines limits s fault

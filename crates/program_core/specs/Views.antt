@@ -33,7 +33,8 @@ abbrev pub fault_of_draw : DrawFault → ProgramFault
 fault_of_draw draws.OutOfMemory = faults.OutOfMemory
 fault_of_draw fault = faults.Draw fault
 
--- the page of a run with this data: without scripts it shows the picture, and the report with each call above what it printed
+-- the page of a run with this data: where a browser runs no scripts, it shows the picture, and the report with each call above what it
+-- printed
 abbrev pub page_around : Machine → Texts → List ℕ → List ℕ
 page_around m consoles run = page_text (whole_picture m consoles) (bench_steps m consoles) run
 

@@ -41,7 +41,7 @@ unread_behind line (byte ∷ bytes) =
 abbrev pub unread : List ℕ → List ℕ
 unread input = unread_behind [] input
 
--- an input was read to its end, or up to the first line that ends the prompt, and no further
+-- an input, if its bytes are known, was read to its end, or up to the first line that ends the prompt, and no further
 abbrev pub IsRead : Option (List ℕ) → Option (List ℕ) → Type 0
 IsRead None left = ⊤
 IsRead (Some input) None = ⊥
@@ -55,7 +55,7 @@ HasNoQuit input = list_any is_quit (lines_of input) ≡ false
 abbrev pub printed : List ℕ → Limits → List ℕ → List ℕ
 printed help limits input = responses help (new_prompt limits) 1 (lines_of input)
 
--- the responses to all lines of an input went out, and nothing else
+-- if an input's bytes are known, the responses to its lines, up to the one that ends the prompt, went out, and nothing else
 abbrev pub Responds : List ℕ → Limits → Option (List ℕ) → Option (List ℕ) → Option (List ℕ) → Type 0
 Responds help limits None old new = ⊤
 Responds help limits (Some input) old new = Appends old new (printed help limits input)
@@ -65,13 +65,14 @@ abbrev pub ReportLaw : Type 0
 ReportLaw =
     (help : List ℕ) (limits : Limits) (bytes : List ℕ) (script : Script) → script_of bytes ≡ Ok script → printed help limits bytes ≡ report_of limits script
 
--- for a script without faults its report went out, and nothing else
+-- if an input's bytes are known, and are a script without faults, the report of this script went out, and nothing else
 abbrev pub Reports : Limits → Option (List ℕ) → Option (List ℕ) → Option (List ℕ) → Type 0
 Reports limits None old new = ⊤
 Reports limits (Some input) old new = IfOk (script_of input) (λ script. Appends old new (report_of limits script))
 
--- the responses to all lines that were taken in went out, except the last; a beginning of the last response may have gone out, if a
--- write failed; if a read failed, no more than a beginning of the last line was taken in
+-- the responses to all lines that were taken in, except the last, went out, and none of these lines ends the prompt; if a write failed, a
+-- beginning of the response to the last line may have gone out, too; if a read failed, no more than a beginning of the last line was taken
+-- in
 pub record IsCutShort (help : List ℕ) (limits : Limits) (fault : PromptFault) (input left : List ℕ) (old new : Option (List ℕ)) : Type 0 where
   pub finished : List ℕ
   pub last : List ℕ

@@ -41,7 +41,7 @@ abbrev pub saved : ℕ → Option Machine → List ℕ
 saved number None = fault_line number NoNodes
 saved number (Some m) = compact_text (session 2 m.names m.limits m.state.history) ++ codes "\n"
 
--- the explanation at a node, or what is wrong with its name and the two texts, as in a line of a script
+-- the explanation of a topic and key at a node; or the fault, if there is no node of that name, or if the topic or the key is no word
 abbrev pub explained_at : ℕ → Machine → Option ℕ → List ℕ → List ℕ → List ℕ
 explained_at number m None topic key = fault_line number BadName
 explained_at number m (Some node) topic key =
@@ -53,7 +53,8 @@ explained number None words = fault_line number NoNodes
 explained number (Some m) (node ∷ topic ∷ key ∷ []) = explained_at number m (number_in m.names node) topic key
 explained number (Some m) words = fault_line number WrongCount
 
--- what would have made a difference at a node, or what is wrong with its name and the two texts
+-- what would have made a difference to a topic and key at a node; or the fault, if there is no node of that name, or if the topic or the
+-- key is no word
 abbrev pub changes_at : ℕ → Machine → Option ℕ → List ℕ → List ℕ → List ℕ
 changes_at number m None topic key = fault_line number BadName
 changes_at number m (Some node) topic key =
@@ -65,7 +66,7 @@ changes number None words = fault_line number NoNodes
 changes number (Some m) (node ∷ topic ∷ key ∷ []) = changes_at number m (number_in m.names node) topic key
 changes number (Some m) words = fault_line number WrongCount
 
--- a text of the run, by the names of its consoles, once the nodes are named
+-- a text of the bench and the names of its consoles, once the nodes are named; before that the fault
 abbrev pub told_by : (Machine → Texts → List ℕ) → ℕ → Option Cast → Option Machine → List ℕ
 told_by text number None machine = fault_line number NoNodes
 told_by text number (Some cast) None = fault_line number NoNodes
@@ -99,12 +100,12 @@ told_sent number None words = fault_line number NoNodes
 told_sent number (Some m) (node ∷ []) = sent_at number m (number_in m.names node)
 told_sent number (Some m) words = fault_line number WrongCount
 
--- the text of a word of the prompt's own, if nothing follows the word
+-- the text of a word of the prompt's own, if nothing follows the word; else the fault
 abbrev pub alone : ℕ → Texts → List ℕ → List ℕ
 alone number [] text = text
 alone number (word ∷ words) text = fault_line number WrongCount
 
--- what these words print of the run
+-- what a line of these words prints, if the first is `:draw`, `:steps`, `:script` or `:sent`; else the line's fault
 unfoldable pub run_word : Prompt → ℕ → FaultKind → List ℕ → Texts → List ℕ
 run_word prompt number kind first words =
     if bytes_eq first (codes ":draw") then alone number words (drawn number prompt.cast prompt.machine)
@@ -113,7 +114,8 @@ run_word prompt number kind first words =
     else (if bytes_eq first (codes ":sent") then told_sent number prompt.machine words
     else fault_line number kind)))
 
--- the response to these words, which have this fault in a script: what the first word asks, if it is one of the prompt's own
+-- the response to these words, which have this fault in a script: what the first word asks, if it is one of the prompt's own; else the
+-- fault
 unfoldable pub worded : List ℕ → Prompt → ℕ → FaultKind → Texts → List ℕ
 worded help prompt number kind [] = fault_line number kind
 worded help prompt number kind (first ∷ words) =
@@ -124,7 +126,7 @@ worded help prompt number kind (first ∷ words) =
     else (if bytes_eq first (codes ":whatif") then changes number prompt.machine words
     else run_word prompt number kind first words))))
 
--- whether the fault is about the first word
+-- whether a line of the prompt's own may have this fault in a script
 abbrev pub may_be_own : FaultKind → Bool
 may_be_own UnknownWord = true
 may_be_own NoNodes = true
@@ -139,7 +141,7 @@ abbrev pub response_by : List ℕ → Prompt → ℕ → List ℕ → Result (Pr
 response_by help prompt number line (Ok next) = next
 response_by help prompt number line (Err kind) = (prompt, own_response help prompt number line kind)
 
--- the prompt after a line, and the response: what a line of a script prints, or else its own response
+-- the prompt after a line, and the response: what the line prints as a line of a script; or else `own_response`, and the prompt stays
 unfoldable pub response : List ℕ → Prompt → ℕ → List ℕ → Prompt × List ℕ
 response help prompt number line = response_by help prompt number line (taken prompt [] line)
 
@@ -147,7 +149,7 @@ response help prompt number line = response_by help prompt number line (taken pr
 abbrev pub are_quits : Texts → Bool
 are_quits words = list_all (λ word. bytes_eq word (codes ":quit")) words
 
--- whether the line ends the prompt: it has one word, which is `:quit`
+-- whether the line ends the prompt: it has one word, which is `:quit`, and is no longer than a line may be
 unfoldable pub is_quit : List ℕ → Bool
 is_quit line = nat_le (length line) longest_line && (are_quits (words_of line) && (length (words_of line) == 1))
 

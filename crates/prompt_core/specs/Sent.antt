@@ -16,7 +16,7 @@ use Rattle.report_core.specs.StepText.{act_line}
 abbrev pub rows_of : Entries → List Row
 rows_of entries = map row_of (fin.entries entries)
 
--- `message NUMBER by STEP`
+-- `message NUMBER by STEP NODE VERB ..`
 unfoldable pub message_line : Texts → ℕ → Kept → List ℕ
 message_line names number k =
     codes "message " ++ decimal number ++ codes " by " ++ decimal k.number ++ codes " " ++ act_line names k.node k.step ++ codes "\n"

@@ -17,7 +17,7 @@ next_step (Some m) = given m.state.history + 1
 unfoldable pub sign : Prompt → List ℕ
 sign prompt = decimal (next_step prompt.machine) ++ codes "> "
 
--- a sign went out whole, if signs are shown; or only a beginning of it, and then no more are shown
+-- if signs are shown, this one went out whole; or a beginning of it, and then no more are shown; if they aren't, nothing went out
 abbrev pub ShowsSign : Bool → List ℕ → Bool → Option (List ℕ) → Option (List ℕ) → Type 0
 ShowsSign false text shown old new = (shown ≡ false) × Keeps old new
 ShowsSign true text true old new = Appends old new text
@@ -39,7 +39,8 @@ signs help prompt number (line ∷ lines) =
 abbrev pub signs_of : List ℕ → Limits → List ℕ → List ℕ
 signs_of help limits input = signs help (new_prompt limits) 1 (read_lines (lines_of input))
 
--- a beginning of the signs went out, if they are shown; else nothing
+-- if signs are shown and the input's bytes are known, a beginning of the signs for the input went out; if signs aren't shown, nothing went
+-- out
 abbrev pub Shows : Bool → List ℕ → Limits → Option (List ℕ) → Option (List ℕ) → Option (List ℕ) → Type 0
 Shows false help limits input old new = Keeps old new
 Shows true help limits None old new = ⊤

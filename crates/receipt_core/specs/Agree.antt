@@ -39,14 +39,14 @@ pub record IsReceiptOf (after : List Event) (last : ℕ) (l : Line) (r : Receipt
   pub past : last < named r
   pub recorded : slice_get after (named r - 1) ≡ Some (record { actor = l.actor; act = l.act; reply = r.reply })
 
--- there is one receipt for each line, in order, at places that rise from `last`
+-- there is one receipt for each line, in order, and their places rise, the first of them past `last`
 abbrev pub AreReceiptsOf : List Event → ℕ → List Line → List Receipt → Type 0
 AreReceiptsOf after last [] [] = Unit {0}
 AreReceiptsOf after last [] (r ∷ rs) = ⊥
 AreReceiptsOf after last (l ∷ ls) [] = ⊥
 AreReceiptsOf after last (l ∷ ls) (r ∷ rs) = IsReceiptOf after last l r × AreReceiptsOf after (named r) ls rs
 
--- each list, of the actors from `actor` on, is that of the actor's lines
+-- each of the lists, which are those of the actors from `actor` on, has the receipts of its actor's lines, at places past `start`
 abbrev pub AreAllReceipts : List Event → ℕ → List (ℕ × Action) → ℕ → List (List Receipt) → Type 0
 AreAllReceipts after start lines actor [] = Unit {0}
 AreAllReceipts after start lines actor (rs ∷ lists) = AreReceiptsOf after start (lines_of actor lines) rs × AreAllReceipts after start lines (actor + 1) lists

@@ -4,10 +4,11 @@ use Rattle.std.specs.List.{filter, AllByRecursion}
 use Rattle.bench_core.specs.Machine.{Event}
 use Rattle.receipt_core.specs.Receipts.{Receipt, event_of}
 
--- the events of receipts, list by list
+-- the events of receipts
 abbrev pub told : List Receipt → List Event
 told rs = map event_of rs
 
+-- the events of receipts, list by list
 abbrev pub all_told : List (List Receipt) → List (List Event)
 all_told lists = map told lists
 

@@ -45,7 +45,7 @@ abbrev pub if_ok : {A E : Type 0} → Result A E → Option A
 if_ok (Ok x) = Some x
 if_ok (Err e) = None
 
--- the names of these texts, if they may name nodes
+-- these values as the names of nodes, if all are texts, and such as may name nodes
 abbrev pub names_at : Items → Option Texts
 names_at items = option_and_then (λ texts. if_ok (names_of texts)) (texts_of items)
 
@@ -80,7 +80,7 @@ parts_at d = do
   acts ← as_array values.0
   Some (record { limits = limits; names = names })
 
--- the items of an array
+-- the items of a value that is an array; none of another value
 abbrev pub items_in : Data → Items
 items_in null = no_items
 items_in (boolean b) = no_items
@@ -96,7 +96,7 @@ abbrev pub acts_members : Members → Items
 acts_members no_members = no_items
 acts_members (member key d ms) = if are_acts key then items_in d else acts_members ms
 
--- the items of a session's acts
+-- the items of the value's acts, if the value is an object; else none
 abbrev pub acts_of : Data → Items
 acts_of null = no_items
 acts_of (boolean b) = no_items

@@ -6,7 +6,7 @@ use Rattle.event_core.specs.Decoding.{event_at}
 use Rattle.recording_core.specs.Decoding.{are_acts, acts_of}
 use Rattle.recording_core.specs.Sessions.{data_of}
 
--- an array without its items
+-- an array without its items; another value as it is
 abbrev pub emptied : Data → Data
 emptied null = null
 emptied (boolean b) = boolean b
@@ -31,13 +31,13 @@ head (string s) = string s
 head (array ds) = array ds
 head (object ms) = object (head_members ms)
 
--- the values stand for these events, all of them, or up to the first that is no event if they are cut
+-- the values stand for these events: all values do, or, if `is_cut`, those before the first that stands for no event
 abbrev pub AreRead : List Data → List Event → Bool → Type 0
 AreRead [] [] is_cut = is_cut ≡ false
 AreRead [] (e ∷ es) is_cut = ⊥
 AreRead (d ∷ ds) [] is_cut = (is_cut ≡ true) × (event_at d ≡ None)
 AreRead (d ∷ ds) (e ∷ es) is_cut = (event_at d ≡ Some e) × AreRead ds es is_cut
 
--- what was read from a value
+-- what was read from a value: the value without the items of its acts, and the events that these items stand for, as `AreRead` has them
 abbrev pub IsDraft : Data → Data → List Event → Bool → Type 0
 IsDraft d first events is_cut = (first ≡ head d) × AreRead (data_of (acts_of d)) events is_cut

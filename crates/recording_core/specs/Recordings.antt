@@ -6,7 +6,8 @@ use Rattle.recording_core.specs.Decoding.{Parts, acts_of}
 use Rattle.recording_core.specs.Drafts.{AreRead}
 use Rattle.recording_core.specs.Sessions.{HasHead, IsJson, data_of}
 
--- the value has the head of a session of this version, with these parts, and its acts stand for these events
+-- the value has the head of a session of this version, with these parts; and its acts stand for these events, or, if `is_cut`, those
+-- before the first that is no event do
 pub record Tells (d : Data) (version : ℕ) (p : Parts) (events : List Event) (is_cut : Bool) : Type 0 where
   pub head : HasHead d version p
   pub acts : AreRead (data_of (acts_of d)) events is_cut

@@ -33,7 +33,8 @@ abbrev pub Asked : Event → Machine → Machine → Bool → Type 0
 Asked e old new true = RecordsNext old e × (new ≡ with_event old e)
 Asked e old new false = ¬ RecordsNext old e
 
--- what the value d of act n does to a bench
+-- what the value d of act n comes to at a bench: the event that it stands for is recorded; or the fault is that it stands for none, that
+-- the bench doesn't record that event so, or want of memory
 abbrev pub Steps : ℕ → ℕ → Machine → Data → Result (Unit {0}) SessionFault → Machine → Type 0
 Steps v n old d (Ok u) new = (e : Event) × (event_in v d ≡ Some e) × RecordsNext old e × (new ≡ with_event old e)
 Steps v n old d (Err (BadShape k)) new = (k ≡ n) × (event_in v d ≡ None)
@@ -42,7 +43,7 @@ Steps v n old d (Err OutOfMemory) new = Unit {0}
 Steps v n old d (Err NotJson) new = ⊥
 Steps v n old d (Err BadVersion) new = ⊥
 
--- the fault of the first bad value, of values numbered from n
+-- the fault of the first bad value, of values numbered from n; or want of memory
 abbrev pub Faults : ℕ → ℕ → Machine → List Data → SessionFault → Type 0
 Faults v n m ds OutOfMemory = Unit {0}
 Faults v n m ds NotJson = ⊥
@@ -69,7 +70,7 @@ pub record HasHead (d : Data) (v : ℕ) (p : Parts) : Type 0 where
   pub known : IsVersion v
   pub parts : parts_at d ≡ Some p
 
--- the value is a session, whose calls leave the bench
+-- the value is a session, and its calls lead from its first bench to this one
 abbrev pub LeadsTo : Data → Machine → Type 0
 LeadsTo d m = (v : ℕ) × (p : Parts) × HasHead d v p × Reads v (first_bench p) (data_of (acts_of d)) m
 
@@ -81,7 +82,7 @@ IsMisshapen d = (version_of d ≡ None) ⊎ ((v : ℕ) × (version_of d ≡ Some
 abbrev pub HasFault : Data → SessionFault → Type 0
 HasFault d fault = (v : ℕ) × (p : Parts) × HasHead d v p × Faults v 1 (first_bench p) (data_of (acts_of d)) fault
 
--- when each fault of a value comes
+-- what each fault says of a value: for want of memory, nothing
 abbrev pub IsRefused : Data → SessionFault → Type 0
 IsRefused d NotJson = ⊥
 IsRefused d BadVersion = (v : ℕ) × (version_of d ≡ Some v) × ¬ IsVersion v
@@ -94,7 +95,8 @@ abbrev pub LoadsAs : Data → Result Machine SessionFault → Type 0
 LoadsAs d (Ok m) = LeadsTo d m
 LoadsAs d (Err fault) = IsRefused d fault
 
--- why the text is refused: each fault comes only in its own case, and only if no earlier one does
+-- what each fault says of the text: `NotJson`, that it is no JSON; `OutOfMemory`, nothing; any other fault, that it is the JSON of a value
+-- which is refused with that fault
 abbrev pub Refuses : List ℕ → SessionFault → Type 0
 Refuses bytes NotJson = IsUtf8 bytes → read bytes ≡ None
 Refuses bytes OutOfMemory = Unit {0}
@@ -113,7 +115,8 @@ pub record IsSessionIn (version : ℕ) (bytes : List ℕ) (m : Machine) : Type 0
 abbrev pub IsSession : List ℕ → Machine → Type 0
 IsSession bytes m = (version : ℕ) × IsVersion version × IsSessionIn version bytes m
 
--- the session of a bench, as it is saved
+-- the text is the session of this bench as it is saved: in the form of version 2, with names, limits and calls that are those of a
+-- bench
 pub record IsSaved (bytes : List ℕ) (m : Machine) : Type 0 where
   pub session : IsSessionIn 2 bytes m
   pub names : names_of m.names ≡ Ok m.names

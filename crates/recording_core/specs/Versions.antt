@@ -1,5 +1,4 @@
--- The versions of a session's text. Version 1 has no requests and no answers, and neither of the two refusals that only these
--- meet.
+-- The versions of a session's text. Version 1 has no requests and no answers, and neither of the refusals `NotRequest` and `IsRequest`.
 use Rattle.std.specs.Prelude.{◌≡◌, ◌⊎◌, ◌==◌, ◌&&◌, ℕ, Bool, true, false, if◌then◌else◌, Option}
 use Rattle.serde_json.specs.Data.{Data}
 use Rattle.node_core.specs.Operations.{Operation, Request, Answer}
@@ -21,7 +20,7 @@ abbrev pub number_of : Version → ℕ
 number_of First = 1
 number_of Second = 2
 
--- neither a request nor an answer
+-- whether the step is neither a request nor an answer
 abbrev pub is_first_step : Operation → Bool
 is_first_step Request = false
 is_first_step (Answer sender number) = false

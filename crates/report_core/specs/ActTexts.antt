@@ -36,7 +36,7 @@ abbrev pub is_out_of_memory : Fault → Bool
 is_out_of_memory OutOfMemory = true
 is_out_of_memory _ = false
 
--- the text of a step's future if the step remains, and else the refusal of its undo
+-- the text, if the step with this number remains; and else the refusal of its undo
 abbrev pub unless_gone : State → ℕ → Option Kept → List ℕ → List ℕ
 unless_gone s number None text = reply_line (undo_reply s number)
 unless_gone s number (Some step) text = text
@@ -45,11 +45,12 @@ unfoldable pub why_text : Machine → ℕ → List ℕ
 why_text m number =
     unless_gone m.state number (find_number m.state.remaining number) (future_line (gathered_numbers m.state.remaining number))
 
--- the steps that an unwind takes back, greatest first
+-- the numbers, or none if there is no step
 abbrev pub unless_none : Option Kept → List ℕ → List ℕ
 unless_none None numbers = []
 unless_none (Some step) numbers = numbers
 
+-- the numbers of the steps that an unwind takes back, greatest first
 unfoldable pub unwound : State → ℕ → List ℕ
 unwound s number = unless_none (find_number s.remaining number) (gathered_numbers s.remaining number)
 

@@ -7,7 +7,7 @@ use Rattle.diff_core.specs.Rows.{Row}
 use Rattle.diff_core.specs.NetChanges.{ComesTo}
 use Rattle.report_core.specs.Shown.{rows_at}
 
--- the rows that left a list in several undos, and those that joined it, each as often as it did
+-- the rows that left a list in several undos, and those that joined it; a row stands there once for each time that it left, or joined
 pub record Moves : Type 0 where
   pub left : List Row
   pub joined : List Row
@@ -15,7 +15,7 @@ pub record Moves : Type 0 where
 abbrev pub no_moves : Moves
 no_moves = record { left = []; joined = [] }
 
--- the moves with the undo of one more step, by which these rows left and those joined
+-- the moves with the undo of one more step: the rows that had joined by the step leave by its undo, and those that had left by it join
 abbrev pub with_undone : Moves → List Row → List Row → Moves
 with_undone moves left joined = record { left = moves.left ++ joined; joined = moves.joined ++ left }
 
@@ -23,12 +23,13 @@ abbrev pub put_undone : List Moves → ℕ → Option Moves → List Row → Lis
 put_undone all node None left joined = all
 put_undone all node (Some moves) left joined = slice_set all node (with_undone moves left joined)
 
--- the moves of all nodes with the undo of one more step at this node, if there is one
+-- the moves of all nodes, with the undo of one more step added to those of its node, if there is such a node
 abbrev pub with_undone_at : List Moves → Option ℕ → List Row → List Row → List Moves
 with_undone_at all None left joined = all
 with_undone_at all (Some node) left joined = put_undone all node (slice_get all node) left joined
 
--- from one machine to the other these rows left the online lists of the nodes and joined them, by number
+-- both machines have the same names, and `moved` has for each node, by number, rows that left and joined its online list and come to the
+-- step from the list in `start` to the list in `now`
 pub record AreMoved (start now : Machine) (moved : List Moves) : Type 0 where
   pub names : now.names ≡ start.names
   pub count : length moved ≡ length start.names

@@ -13,7 +13,7 @@ use Rattle.grammar_core.specs.Grammar.{Reading, script_of, with_line}
 use Rattle.run_core.specs.Report.{after_commands, commands_of, commands_text, played, report_of}
 use Rattle.grammar_core.specs.declared.fault.FaultKind.{FaultKind}
 
--- who may act, and the machine, once the nodes are named
+-- the limits; and, once the nodes are named, who may act, and the machine
 pub record Prompt : Type 0 where
   pub limits : Limits
   pub cast : Option Cast
@@ -44,7 +44,7 @@ opened limits cast (Some machine) = Some machine
 opened limits (Some cast) None = Some (opening_machine cast.nodes limits)
 opened limits None None = None
 
--- the prompt after these commands, and the text with what they print after it
+-- the prompt after these commands, and the text with what they print behind it; without a machine they do nothing
 abbrev pub asked : Limits → Option Cast → Option Machine → List ℕ → List Command → Prompt × List ℕ
 asked limits cast None text commands = (record { limits = limits; cast = cast; machine = None }, text)
 asked limits cast (Some machine) text commands =
@@ -56,11 +56,11 @@ carried_out prompt text read =
     read >>= λ reading.
     Ok (asked prompt.limits reading.cast (opened prompt.limits reading.cast prompt.machine) text (commands_of reading.lines))
 
--- a line is read as a script's line is, with what was named before it
+-- the prompt and the text after a line, which is read as a script's line is, with what was named before it; or the line's fault
 unfoldable pub taken : Prompt → List ℕ → List ℕ → Result (Prompt × List ℕ) FaultKind
 taken prompt text line = carried_out prompt text (with_line (record { cast = prompt.cast; lines = [] }) 0 line)
 
--- lines taken in order, if none has a fault; or the first fault
+-- the prompt and the text after these lines, taken in order; or the first fault
 unfoldable pub all_taken : Prompt → List ℕ → List (List ℕ) → Result (Prompt × List ℕ) FaultKind
 all_taken prompt text [] = Ok (prompt, text)
 all_taken prompt text (line ∷ lines) = do

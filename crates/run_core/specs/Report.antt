@@ -39,7 +39,7 @@ after_commands m (command ∷ commands) = after_commands (after_command m comman
 abbrev pub commands_of : List Line → List Command
 commands_of lines = map (λ line. line.command) lines
 
--- the machine that a script leaves, from the opening
+-- the machine that a script leaves, opened with the script's nodes and these limits
 unfoldable pub played : Limits → Script → Machine
 played limits script = after_commands (opening_machine script.cast.nodes limits) (commands_of script.lines)
 
@@ -47,9 +47,10 @@ played limits script = after_commands (opening_machine script.cast.nodes limits)
 unfoldable pub report_of : Limits → Script → List ℕ
 report_of limits script = commands_text (opening_machine script.cast.nodes limits) (commands_of script.lines)
 
--- the report of a history: that of its calls, from the opening
+-- the call of an event, as a command
 abbrev pub call_of : Event → Command
 call_of event = Call event.actor event.act
 
+-- the report of a history: what its calls print, asked of the machine as it was opened
 unfoldable pub history_text : Machine → List ℕ
 history_text m = commands_text (opening_machine m.names m.limits) (map call_of m.state.history)

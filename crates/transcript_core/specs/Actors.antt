@@ -22,7 +22,8 @@ with_actor nodes count actor = if nat_lt count (actor + 1 - nodes) then actor + 
 abbrev pub console_count : ℕ → List Event → ℕ
 console_count nodes events = fold (λ count e. with_actor nodes count e.actor) 0 events
 
--- the next console has this name, if one has none yet and nobody has the name
+-- these names of consoles, and after them this one for the next console, if fewer than `count` have a name and neither a node nor a console
+-- has this one
 abbrev pub with_free : Texts → ℕ → Texts → List ℕ → Texts
 with_free nodes count consoles name =
     if nat_lt (length consoles) count && (not (is_some (number_in nodes name)) && not (list_any (bytes_eq name) consoles)) then consoles ++ name ∷ []
@@ -32,7 +33,7 @@ with_free nodes count consoles name =
 unfoldable pub console_words : Texts
 console_words = words_of CONSOLES.now
 
--- the first of these words that no node has, for `count` consoles
+-- the first `count` of the words `c1`, `c2` .. that no node has; fewer if there are no more
 unfoldable pub named_consoles : Texts → ℕ → Texts
 named_consoles nodes count = fold (with_free nodes count) [] console_words
 

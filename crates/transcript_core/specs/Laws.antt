@@ -9,7 +9,7 @@ use Rattle.grammar_core.specs.Grammar.{longest_script, with_each}
 use Rattle.run_core.specs.ReadSteps.{AreNodes, IsNumber, IsWritten}
 use Rattle.transcript_core.specs.Scripts.{IsReadBack, cast_of, script_text}
 
--- these are the names of a `consoles` line, or none
+-- a `consoles` line can have these names, beside these nodes; or there are none
 pub record AreConsoles (nodes consoles : Texts) : Type 0 where
   pub taken : with_each nodes [] consoles ≡ Ok consoles
   pub few : length consoles ≤ most_consoles
@@ -27,6 +27,6 @@ pub record CanBeTold (m : Machine) (consoles : Texts) : Type 0 where
   pub calls : AllByRecursion (λ e. CanBeAsked (cast_of m consoles) e.actor e.act) m.state.history
   pub short : length (script_text (cast_of m consoles) m.state.history) ≤ longest_script
 
--- the script of the calls is read back, if it can be told
+-- if a bench's calls can be told, their script is read back as these calls
 abbrev pub ScriptLaw : Type 0
 ScriptLaw = (m : Machine) (consoles : Texts) → CanBeTold m consoles → IsReadBack m (script_text (cast_of m consoles) m.state.history)

@@ -15,7 +15,7 @@ abbrev pub fault_in : Reply → Option Fault
 fault_in (Refused fault) = Some fault
 fault_in _ = None
 
--- why an unwind is refused: if its step doesn't remain, as the step's undo is
+-- the fault of an unwind: that of an undo of the step, if the step doesn't remain; else none
 abbrev pub unwind_refusal : State → ℕ → Option Kept → Option Fault
 unwind_refusal s number None = fault_in (undo_reply s number)
 unwind_refusal s number (Some step) = None
@@ -30,7 +30,7 @@ abbrev pub first_of : ℕ → Option Fault → Option Refusal → Option Refusal
 first_of number None later = later
 first_of number (Some fault) later = Some (record { number = number; fault = fault })
 
--- the first of these lines that is refused
+-- the first of these lines that is refused, if they are asked of this machine one after another; and why
 unfoldable pub first_from : Machine → List Line → Option Refusal
 first_from m [] = None
 first_from m (line ∷ lines) = first_of line.number (refusal_of m line.command) (first_from (after_command m line.command) lines)
@@ -39,12 +39,12 @@ first_from m (line ∷ lines) = first_of line.number (refusal_of m line.command)
 unfoldable pub first_refused : Limits → Script → Option Refusal
 first_refused limits script = first_from (opening_machine script.cast.nodes limits) script.lines
 
--- why the call at this place was refused, if it was
+-- why this recorded call was refused, if there is one and it was
 abbrev pub refusal_in : Option Event → Option Fault
 refusal_in None = None
 refusal_in (Some e) = fault_in e.reply
 
--- the first of these recorded calls that was refused, numbered from n on
+-- the first of these recorded calls that was refused, and why; the first of the calls has the number n
 unfoldable pub first_recorded : ℕ → List Event → Option Refusal
 first_recorded n [] = None
 first_recorded n (e ∷ es) = first_of n (fault_in e.reply) (first_recorded (n + 1) es)

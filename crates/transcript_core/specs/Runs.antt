@@ -44,6 +44,6 @@ pub record CanBePlayed (names : Texts) (ks : List Kept) : Type 0 where
   pub steps : AllByRecursion (λ k. (k.node < length names) × IsWritten names k.step) ks
   pub short : length (run_text [] names ks) ≤ longest_script
 
--- the script of the run is read back, if it can be played
+-- if a run can be played, its script is read back as its steps
 abbrev pub RunLaw : Type 0
 RunLaw = (names : Texts) (ks : List Kept) → CanBePlayed names ks → IsReadAsRun names ks (run_text [] names ks)

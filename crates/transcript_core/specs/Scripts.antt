@@ -58,7 +58,7 @@ calls_asked m = map call_of m.state.history
 abbrev pub cast_of : Machine → Texts → Cast
 cast_of m consoles = record { nodes = m.names; consoles = consoles }
 
--- a script asks the calls of the bench, and names its nodes
+-- a script asks the recorded calls of the bench, in their order, and its nodes are the bench's
 pub record Asks (m : Machine) (script : Script) : Type 0 where
   pub nodes : script.cast.nodes ≡ m.names
   pub commands : commands_of script.lines ≡ calls_asked m
@@ -69,8 +69,8 @@ pub record IsReadBack (m : Machine) (text : List ℕ) : Type 0 where
   pub read : script_of text ≡ Ok script
   pub asks : Asks m script
 
--- the text is the script of the bench's calls, with these names of its consoles; it is read as these calls, and a play of it with
--- the bench's limits leaves the bench
+-- the text is the script of the bench's calls, with these names of its consoles; it is read as these calls, and to play it with the bench's
+-- limits leads to this very bench
 pub record IsScriptOf (m : Machine) (consoles : Texts) (text : List ℕ) : Type 0 where
   pub is : text ≡ script_text (cast_of m consoles) m.state.history
   pub back : IsReadBack m text
@@ -83,8 +83,8 @@ fault_by _ fault = NoScript fault
 abbrev pub fault_of : ScriptFault → TranscriptFault
 fault_of fault = fault_by fault.kind fault
 
--- why the text isn't read as these calls: it is no script, and this is its first fault; it is one that asks something else; or
--- memory was refused
+-- why the text isn't read as the bench's calls: it is no script, and this is its first fault; it is a script, but doesn't ask the bench's
+-- calls of its nodes; or memory was refused, which says nothing of the text
 abbrev pub IsUnread : Machine → List ℕ → TranscriptFault → Type 0
 IsUnread m text (NoScript fault) = script_of text ≡ Err fault
 IsUnread m text OtherCalls = (script : Script) × (script_of text ≡ Ok script) × ¬ Asks m script

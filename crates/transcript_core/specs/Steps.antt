@@ -41,7 +41,7 @@ abbrev pub taker_text : Cast → Option ℕ → List ℕ
 taker_text cast None = []
 taker_text cast (Some actor) = undone_text cast actor
 
--- the number of the step that was taken, or taken back; a dash for a call that was refused
+-- the number of the step that was taken, or taken back; a dash for a call that was refused, or whose reply isn't recorded
 abbrev pub number_text : Option Reply → List ℕ
 number_text (Some (Taken number)) = decimal number ++ codes "  "
 number_text (Some (Undone number)) = decimal number ++ codes "  "
@@ -52,7 +52,8 @@ abbrev pub note_text : Cast → Takers → Option Reply → List ℕ
 note_text cast takers (Some (Taken number)) = taker_text cast (taker_of takers number)
 note_text cast takers _ = []
 
--- `NUMBER  NODE VERB ..`, and who took the step back
+-- a call as a line: before it the number of the step that it took or took back, or a dash; after it who took back the step that it took, if
+-- anybody did
 unfoldable pub head_line : Cast → Takers → ℕ → Action → Option Reply → List ℕ
 head_line cast takers actor act reply = number_text reply ++ call_line cast actor act ++ note_text cast takers reply ++ codes "\n"
 
@@ -60,7 +61,7 @@ abbrev pub unwind_number : Bool → ℕ → List ℕ
 unwind_number false number = codes "-  "
 unwind_number true number = decimal number ++ codes "  "
 
--- what stands above what a line printed, by the reply that was recorded for it, and by whether the step that it unwinds remained
+-- the line above what a command printed, by the reply that was recorded for it, if any, and by whether it unwinds a step that remained
 unfoldable pub command_head : Cast → Takers → Command → Option Reply → Bool → List ℕ
 command_head cast takers (Call actor act) reply remains = head_line cast takers actor act reply
 command_head cast takers (Unwind actor number) reply remains =
@@ -74,11 +75,11 @@ command_head cast takers Journal reply remains = codes "journal\n"
 abbrev pub reply_at : List Event → ℕ → Option Reply
 reply_at events place = option_map (λ e. e.reply) (slice_get events place)
 
--- the reply that a line records next, if any
+-- the first reply that is recorded when the machine is asked the line, if any
 abbrev pub recorded : Machine → Command → Option Reply
 recorded m command = reply_at (after_command m command).state.history (length m.state.history)
 
--- whether the step that the line unwinds remains
+-- whether the line unwinds a step that remains
 abbrev pub unwinds_one : Machine → Command → Bool
 unwinds_one m (Unwind actor number) = is_some (find_number m.state.remaining number)
 unwinds_one m _ = false
@@ -100,11 +101,11 @@ unfoldable pub steps_text : Cast → Takers → Machine → List Command → Lis
 steps_text cast takers m [] = []
 steps_text cast takers m (command ∷ commands) = command_steps cast takers m command ++ steps_text cast takers (after_command m command) commands
 
--- the steps text of a script that is played with these limits
+-- each line of a script above what it prints, if the script is played with these limits
 unfoldable pub script_steps : Limits → Script → List ℕ
 script_steps limits script =
     steps_text script.cast (takers_of (played limits script).state.history) (opening_machine script.cast.nodes limits) (commands_of script.lines)
 
--- the steps text of the calls that a bench recorded, with these names of its consoles
+-- each call that a bench recorded above what it printed, with these names of the bench's consoles
 unfoldable pub bench_steps : Machine → Texts → List ℕ
 bench_steps m consoles = steps_text (cast_of m consoles) (takers_of m.state.history) (opening_machine m.names m.limits) (calls_asked m)

@@ -18,11 +18,11 @@ pub record Difference : Type 0 where
   pub besides : List ℕ
   pub rows : List Row
 
--- the nearest of these places
+-- the nearest of the places beside which the step comes; 0 if there are none
 abbrev pub nearest : Difference → ℕ
 nearest d = unwrap_or (slice_get d.besides 0) 0
 
--- the change beside the nearest place
+-- the change of a difference in which the step comes beside the nearest of its places
 abbrev pub nearest_change : Difference → Change
 nearest_change d = record { kind = d.kind; place = d.place; beside = nearest d }
 

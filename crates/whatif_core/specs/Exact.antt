@@ -12,7 +12,7 @@ use Rattle.change_core.specs.Questions.{Question, rows_at}
 use Rattle.change_core.specs.Ends.{rows_before, run_of}
 use Rattle.whatif_core.specs.Differences.{Difference, nearest, nearest_change}
 
--- the run has this change; and there is a run, in which each node does what it did, in its order, apart from the change, that
+-- the recorded run has this change; and some run in which each node does what it did, in its order, but for the change,
 -- leads to this cluster
 pub record LeadsTo (m : Machine) (c : Change) (end : Cluster) : Type 0 where
   pub is_one : is_change m.state.remaining c ≡ true
@@ -52,11 +52,11 @@ pub record HasOrder (ks : List Kept) (c : Change) : Type 0 where
   pub run : List Kept
   pub ordered : order_of (changed ks c) ≡ Some run
 
--- with each change of a difference the run has an order
+-- with the nearest change of each difference that is told, what the nodes did has an order
 abbrev pub ToldRunsLaw : Type 0
 ToldRunsLaw = (m : Machine) (q : Question) (told : List Difference) → AreExactly m q told → (d : Difference) → Contains told d →
     HasOrder m.state.remaining (nearest_change d)
 
--- the list of changes has those that the run has
+-- the list has each change that the run has, and no other change
 abbrev pub AreAllChanges : List Kept → List Change → Type 0
 AreAllChanges ks cs = (c : Change) → (is_change ks c ≡ true) ↔ Contains cs c

@@ -42,7 +42,7 @@ pub record IsScriptWith (m : Machine) (c : Change) (text : List ℕ) : Type 0 wh
   pub ordered : order_of (changed m.state.remaining c) ≡ Some run
   pub script : text ≡ run_text [] m.names run
 
--- the text is the run with the change of this number, beside its nearest place
+-- the text is the run with the nearest change of the difference with this number
 pub record IsRun (m : Machine) (question : Question) (number : ℕ) (text : List ℕ) : Type 0 where
   pub q : Plain
   pub asks : Asks m question q
@@ -50,7 +50,7 @@ pub record IsRun (m : Machine) (question : Question) (number : ℕ) (text : List
   pub told : numbered (tally_of m q).told number ≡ Some d
   pub with_it : IsScriptWith m (nearest_change d) text
 
--- there are `there_are` changes, and none has this number
+-- there are `there_are` differences, and none has this number
 pub record HasNoChange (m : Machine) (question : Question) (number there_are : ℕ) : Type 0 where
   pub q : Plain
   pub asks : Asks m question q
@@ -65,7 +65,7 @@ Refuses m question faults.NoWord =
 Refuses m question (faults.NoSuchChange there_are) = ⊥
 Refuses m question faults.OutOfMemory = Unit {0}
 
--- why there is no run: there is no text for the question; or there is no change with this number
+-- why there is no run: there is no text for the question; or there is no difference with this number
 abbrev pub RefusesRun : Machine → Question → ℕ → WhatifFault → Type 0
 RefusesRun m question number (faults.NoSuchChange there_are) = HasNoChange m question number there_are
 RefusesRun m question number fault = Refuses m question fault

@@ -71,7 +71,8 @@ counts_words tried possible differ =
 unfoldable pub head_line : Texts → Question → ℕ → Tally → List ℕ
 head_line names q tried t = asked_words names q ++ counts_words tried t.possible t.differ
 
--- the whole text: how many changes there are, the rows of the recorded run, and each difference
+-- the whole text: how many changes there are, how many of them are possible and how many make a difference, the rows of
+-- the recorded run, and each difference
 unfoldable pub whatif_text : Machine → Question → List ℕ
 whatif_text m q =
     head_line m.names q (length (changes m.state.remaining)) (tally_of m q) ++ row_lines (codes "= ") m.names (rows_before m q) ++
