@@ -2,6 +2,7 @@
 use Rattle.std.proofs.Common.{◌≡◌, ◌≢◌, ℕ, List, [], ◌∷◌, ◌++◌, map, codes, refl, sym, ap, ap₂, ◌∙◌, subst}
 use Rattle.std.proofs.lemmas.List.{map-append}
 use Rattle.clap.specs.declared.error.kind.ErrorKind.{ErrorKind}
+use Rattle.clap.specs.declared.error.kind.ErrorKind.TheVariants.{OutOfMemory}
 use Rattle.command_line.specs.Line.{Misspells, NeedsLast}
 
 ends_not : {X : Type 0} (ys : List X) (y : X) → [] ≡ ys ++ y ∷ [] → ⊥
@@ -36,6 +37,7 @@ none_needed words e before is = absurd (ends_not before (codes "-") (sym e ∙ i
 pub other_last : (words before : List (List ℕ)) (last : List ℕ) → words ≡ before ++ last ∷ [] → last ≢ codes "-" → NeedsLast words
 other_last words before last e other rest is = absurd (other (last_same before rest last (codes "-") (sym e ∙ is)).1)
 
-pub needs_last : (words before : List (List ℕ)) (kind : ErrorKind) → words ≡ before ++ codes "-" ∷ [] → Misspells before kind → NeedsLast words
-needs_last words before kind e misspells rest is =
-    (kind, subst (λ (ws : List (List ℕ)). Misspells ws kind) (last_same before rest (codes "-") (codes "-") (sym e ∙ is)).0 misspells)
+pub needs_last : (words before : List (List ℕ)) (kind : ErrorKind) → words ≡ before ++ codes "-" ∷ [] → kind ≢ OutOfMemory →
+    Misspells before kind → NeedsLast words
+needs_last words before kind e other misspells rest is =
+    (kind, other, subst (λ (ws : List (List ℕ)). Misspells ws kind) (last_same before rest (codes "-") (codes "-") (sym e ∙ is)).0 misspells)

@@ -71,7 +71,7 @@ question_app name = with_rule (with_rule (with_rule (new_app name) (word_rule (c
 abbrev pub optional_rule : List ℕ → Rule
 optional_rule name = new_rule name
 
--- a subcommand of this name that takes a node, and a topic and a key there, or leaves them out
+-- a subcommand of this name that takes a node, a topic and a key, each of which may be left out
 abbrev pub about_app : List ℕ → App
 about_app name =
     with_rule (with_rule (with_rule (new_app name) (optional_rule (codes "NODE"))) (optional_rule (codes "TOPIC"))) (optional_rule (codes "KEY"))
@@ -93,7 +93,7 @@ explain_app = question_app (codes "explain")
 abbrev pub whatif_app : App
 whatif_app = with_rule (question_app (codes "whatif")) (number_rule (codes "script"))
 
--- the line without its subcommands
+-- the command line without its subcommands
 abbrev pub bare_app : App
 bare_app =
     let new = new_app (codes "presence_bench") in
@@ -134,18 +134,18 @@ abbrev pub IsForm : Form → Option (List ℕ) → Form → Type 0
 IsForm usual None form = form ≡ usual
 IsForm usual (Some name) form = name ≡ form_name form
 
--- the number that a value spells, which has at most 64 bits; without a value there is none
+-- the number that a value spells in decimal, with or without a plus before it, and below 2^64; without a value there is none
 abbrev pub IsNumber : Option (List ℕ) → Option ℕ → Type 0
 IsNumber None number = number ≡ None
 IsNumber (Some digits) number =
     let ds = without_leading_plus digits in IsNumeral 10 ds × (digits_value 10 ds < 2 ^ 64) × (number ≡ Some (digits_value 10 ds))
 
--- an option without a value was entered where the value is `true`
+-- whether an option that takes no value was entered: it was if and only if the value found for it is `true`
 abbrev pub IsFlag : Option (List ℕ) → Bool → Type 0
 IsFlag value false = value ≢ Some (codes "true")
 IsFlag value true = value ≡ Some (codes "true")
 
--- what options give
+-- the options are those that the entered values give, each found by its name
 pub record AreOptions (values : List ℕ → Option (List ℕ)) (options : Options) : Type 0 where
   pub strict : IsFlag (values (codes "strict")) options.strict
   pub why : IsNumber (values (codes "why")) options.why
@@ -159,34 +159,35 @@ pub record AreOptions (values : List ℕ → Option (List ℕ)) (options : Optio
   pub lines : IsFlag (values (codes "lines")) options.lines
   pub lenient : IsFlag (values (codes "lenient")) options.lenient
 
--- the words at their places
+-- the question has the words entered as node, topic and key
 pub record IsQuestion (values : List ℕ → Option (List ℕ)) (question : Question) : Type 0 where
   pub node : values (codes "NODE") ≡ Some question.node.now
   pub topic : values (codes "TOPIC") ≡ Some question.topic.now
   pub key : values (codes "KEY") ≡ Some question.key.now
 
--- the words that may be left out: a node, and a topic and a key
+-- what the words ask about: the cluster if there is no node, a node if there is no topic, or a topic and a key at a node
 abbrev pub IsAbout : (List ℕ → Option (List ℕ)) → About → Type 0
 IsAbout values Cluster = values (codes "NODE") ≡ None
 IsAbout values (Node name) = (values (codes "NODE") ≡ Some name.now) × (values (codes "TOPIC") ≡ None)
 IsAbout values (Presence question) = IsQuestion values question
 
--- the presences for which a picture's lanes are thick: none if no words ask, and else those of a topic and a key
+-- the presences for which a picture's lanes are thick: none if the words ask about the cluster, those that they ask about if they name a
+-- node, a topic and a key; there is no picture for other words
 abbrev pub IsOnline : Option About → Option Question → Type 0
 IsOnline (Some Cluster) online = online ≡ None
 IsOnline (Some (Presence question)) online = online ≡ Some question
 IsOnline (Some (Node name)) online = ⊥
 IsOnline None online = ⊥
 
--- the words ask neither: they name a node alone, or a topic without a key
+-- the words ask neither about the cluster nor about presences: they name a node alone, or a topic without a key
 abbrev pub AsksOtherwise : Option About → Type 0
 AsksOtherwise (Some Cluster) = ⊥
 AsksOtherwise (Some (Presence question)) = ⊥
 AsksOtherwise (Some (Node name)) = ⊤
 AsksOtherwise None = ⊤
 
--- the subcommand has the options and words that it takes; without the option 100,000 states are kept, and no delivery is lost or
--- comes again
+-- the subcommand has the options and words that it takes; without `--states` 100,000 states may be kept, and without `--lost` and
+-- `--again` no delivery is lost or comes again
 abbrev pub Takes : Options → Option Question → Option About → Subcommand → Type 0
 Takes options question about (Draw drawing) =
     IsOnline about drawing.online × (drawing.why ≡ options.why) × (drawing.from ≡ options.from) × (drawing.to ≡ options.to)
@@ -216,20 +217,20 @@ race_prints Report = true
 race_prints Session = true
 race_prints form = false
 
--- whether an import prints in this form; a check prints in its own form alone
+-- whether an import can be asked for this form: a script always, a session or a page unless it checks
 abbrev pub import_prints : Bool → Form → Bool
 import_prints check Session = not check
 import_prints check PageForm = not check
 import_prints check form = is_script form
 
--- whether the subcommand prints in this form: a race prints a report or a session, an import a script, a session or a page, and
--- nothing else prints a page
+-- whether the subcommand can be asked for this form: a race for a report or a session, an import for those that `import_prints` has, and
+-- all others for any form but a page
 abbrev pub can_print : Subcommand → Form → Bool
 can_print (Import wanted) form = import_prints wanted.check form
 can_print Race form = race_prints form
 can_print command form = not (is_page form)
 
--- the subcommand has this name, and its options and words give the form and the rest
+-- the choice's subcommand has this name, and its options and words give the form, which it can print, and the rest
 pub record IsChoiceOf (name : List ℕ) (values : List ℕ → Option (List ℕ)) (choice : Choice) : Type 0 where
   pub name_is : name ≡ name_of choice.command
   pub form : IsForm (usual_form choice.command) (values (codes "as")) choice.form
@@ -242,7 +243,7 @@ pub record IsChoiceOf (name : List ℕ) (values : List ℕ → Option (List ℕ)
   pub takes : Takes options question about choice.command
   pub printed : can_print choice.command choice.form ≡ true
 
--- the words that the subcommand needs aren't there
+-- the words that the subcommand needs aren't there; or, for a picture, they ask about something else than it shows
 abbrev pub Lacks : Option Question → Option About → Subcommand → Type 0
 Lacks question about (Explain asked) = question ≡ None
 Lacks question about (Whatif wanted) = question ≡ None
@@ -255,7 +256,7 @@ Lacks question about Step = ⊥
 Lacks question about (Draw drawing) = AsksOtherwise about
 Lacks question about Page = ⊥
 
--- no subcommand has this name, unless it lacks its words
+-- each subcommand that has this name lacks the words that it needs
 abbrev pub IsUnnamed : List ℕ → Option Question → Option About → Type 0
 IsUnnamed name question about = (command : Subcommand) → name ≡ name_of command → Lacks question about command
 
@@ -266,12 +267,12 @@ pub record Spells (words : List (List ℕ)) (choice : Choice) : Type 0 where
   pub command : subcommand_of app words ≡ Some (name, rows)
   pub chosen : IsChoiceOf name (λ option. first_of option rows) choice
 
--- the fault is about what was entered
+-- the fault is that a value is invalid, or that there is no subcommand
 abbrev pub IsUnchosen : ErrorKind → Type 0
 IsUnchosen kind = (kind ≡ InvalidValue) ⊎ (kind ≡ MissingSubcommand)
 
--- the words spell no choice, for this kind of fault: want of memory; what the command line finds wrong in them, or a request for
--- help; or they choose nothing
+-- why the words give no choice, by this kind of fault: memory was refused; or the command line finds this fault in them, perhaps a request
+-- for help; or a value is invalid or there is no subcommand, and the words spell no choice
 abbrev pub Misspells : List (List ℕ) → ErrorKind → Type 0
 Misspells words kind =
     (kind ≡ OutOfMemory) ⊎ (IsAmong kind (fault_of app words) ⊎ (IsUnchosen kind × ((choice : Choice) → ¬ Spells words choice)))
@@ -280,14 +281,16 @@ Misspells words kind =
 abbrev pub SpellsBefore : List (List ℕ) → Choice → Type 0
 SpellsBefore words choice = (before : List (List ℕ)) × (words ≡ before ++ codes "-" ∷ []) × Spells before choice
 
--- if the last word is `-`, those before it spell no choice
+-- if the last word is `-`, those before it give no choice, by a fault other than want of memory
 abbrev pub NeedsLast : List (List ℕ) → Type 0
-NeedsLast words = (before : List (List ℕ)) → words ≡ before ++ codes "-" ∷ [] → (kind : ErrorKind) × Misspells before kind
+NeedsLast words = (before : List (List ℕ)) → words ≡ before ++ codes "-" ∷ [] →
+    (kind : ErrorKind) × (kind ≢ OutOfMemory) × Misspells before kind
 
--- what the words choose; a last word `-` that can be left out stands for standard input
+-- the words choose this: those before a last `-` spell it, and `-` stands for standard input; or all of them spell it, and if the last is
+-- `-`, those before it give no choice
 abbrev pub Chooses : List (List ℕ) → Choice → Type 0
 Chooses words choice = SpellsBefore words choice ⊎ (NeedsLast words × Spells words choice)
 
--- the words choose nothing, for this kind of fault
+-- the words are refused with this kind of fault
 abbrev pub IsRefusal : List (List ℕ) → ErrorKind → Type 0
 IsRefusal words kind = (kind ≡ OutOfMemory) ⊎ (NeedsLast words × Misspells words kind)
