@@ -47,6 +47,16 @@ unfolding script_of
 too_long None h = tt
 too_long (Some input) h = grind (arith, nat_tests)
 
+-- want of memory is no fault of the question what the network could have made
+pub explore_memory : (fault : ReportFault) → TellsMemory (fault_of_explore fault)
+explore_memory reports.OutOfMemory = tt
+explore_memory reports.NoSuchNode = λ e. cc
+explore_memory reports.NoWord = λ e. cc
+explore_memory (reports.TooManyStates most found) = λ e. cc
+explore_memory reports.MayFill = λ e. cc
+explore_memory reports.TooManySteps = λ e. cc
+explore_memory (reports.NoSuchOutcome there_are) = λ e. cc
+
 -- what holds whatever the outcome is
 pub always : (r : Result (Unit {0}) ProgramFault) (X : Type 0) → X → OnOk r X
 always (Ok u) X x = x

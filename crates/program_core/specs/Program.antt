@@ -358,8 +358,8 @@ IsUnwritten (faults.Transcript fault) = ⊥
 IsUnwritten faults.Differs = ⊥
 IsUnwritten _ = ⊤
 
--- want of memory comes as no fault of a script, a session, a race, an explanation, a picture, an import, a question for changes, or calls
--- as a script
+-- want of memory comes as no fault of a script, a session, a race, an explanation, a picture, an import, a question for changes or for
+-- what the network could have made, or calls as a script
 abbrev pub TellsMemory : ProgramFault → Type 0
 TellsMemory (faults.Script fault) = fault.kind ≢ kinds.OutOfMemory
 TellsMemory (faults.Session fault) = fault ≢ sessions.OutOfMemory
@@ -368,6 +368,7 @@ TellsMemory (faults.Explain fault) = fault ≢ asks.OutOfMemory
 TellsMemory (faults.Draw fault) = fault ≢ draws.OutOfMemory
 TellsMemory (faults.Import fault) = fault.kind ≢ imports.OutOfMemory
 TellsMemory (faults.Whatif fault) = fault ≢ whatifs.OutOfMemory
+TellsMemory (faults.Explore fault) = fault ≢ reports.OutOfMemory
 TellsMemory (faults.Transcript fault) = fault ≢ transcripts.OutOfMemory
 TellsMemory _ = ⊤
 

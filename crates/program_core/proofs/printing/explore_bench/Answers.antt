@@ -1,9 +1,9 @@
 use Rattle.std.proofs.Common.{◌≡◌, ◌∙◌, refl, rules, ℕ, List, Err, subst, subst₂, sym}
 use Rattle.command_line.specs.declared.chosen.Subcommand.TheVariants.{Explore}
 use Rattle.program_core.specs.Explored.{TellsExplored, asked_of}
-use Rattle.program_core.specs.Program.{EndsAt}
+use Rattle.program_core.specs.Program.{EndsAt, TellsMemory}
 use Rattle.program_core.specs.declared.fault.ProgramFault.{ProgramFault}
-use Rattle.program_core.proofs.Printed.{asked_explore, ends_explore, fails_not, refused_explore}
+use Rattle.program_core.proofs.Printed.{asked_explore, ends_explore, explore_memory, fails_not, refused_explore}
 use Rattle.progress_core.specs.Lines.{walked_line, TellsWalked}
 use Rattle.progress_core.proofs.Telling.{tells_nothing, told_nothing}
 use Rattle.command_line.specs.declared.chosen.Form.TheVariants as forms
@@ -21,6 +21,9 @@ returns-in-Err-clause-ends g c = λ form.
     (asked_explore form c.args.setting.now.limits (g.R.Read.remaining c.args.reader.now) (g.W.Write.contents c.args.writer.now) c.args.asked
     c.in_ok-bench.bench c.in-Err.fault c.in_ok-bench.ensures.bench
     c.in-Err.ensures.refused)
+
+pub returns-in-Err-clause-memory : goal.returns-in-Err-clause-memory
+returns-in-Err-clause-memory g c = subst TellsMemory (sym c.from.ensures) (explore_memory c.in-Err.fault)
 
 pub returns-clause-ends : goal.returns-clause-ends
 returns-clause-ends g c = λ form.
