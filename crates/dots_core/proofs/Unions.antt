@@ -2,7 +2,7 @@
 use Rattle.std.proofs.Common.{◌≡◌, ◌≢◌, ◌⊎◌, inl, inr, ℕ, zero, suc, ◌+◌, ◌<◌, ◌≤◌, ◌==◌, nat_lt, nat_le, ◌&&◌, ◌||◌, not, min, max, Bool, true, false}
 use Rattle.std.proofs.Common.{List, [], ◌∷◌, ◌++◌, length, get_or, slice_set, get_or-set_same, get_or-set_other, take, if◌then◌else◌, Some, None, refl, sym}
 use Rattle.std.proofs.Common.{ap, subst, ◌∙◌, arith, true≢false}
-use Rattle.std.proofs.Math.Bool.{and-false, and_comm, or-false, or_comm}
+use Rattle.std.proofs.Math.Bool.{and-false, and_comm, or-false, or_assoc, or_comm}
 use Rattle.std.proofs.lemmas.Bool.{eq-eqb, eqb-true, eqb-false, cases_eq, cases_lt, or_left, or_right, or_cases}
 use Rattle.std.proofs.lemmas.Bool.Decides.{nat_tests}
 use Rattle.std.specs.List.{slice_get}
@@ -12,8 +12,8 @@ use Rattle.dots_core.specs.Dots.{Dots, of_names}
 use Rattle.dots_core.specs.Names.{Names, HasAll}
 use Rattle.dots_core.specs.Clocks.{Clocks, no_clocks, is_among, holds, RisesAbove, IsCanonical, Gains, IsUnion}
 use Rattle.dots_core.specs.Parts.{dots_of_parts, part_at, AreParts}
-use Rattle.dots_core.specs.Unions.{IsLeast, without_first, AddsOnly, HasEach, IsGrown, IsUnionFrom}
-use Rattle.dots_core.proofs.Clocks.{or_swap, among_head, among_cases, rises_lower, rises_within, rises-append, holds_low, holds_cases, same_clocks}
+use Rattle.dots_core.specs.Unions.{IsLeast, without_first, AddsOnly, GainsEach, HasEach, IsGrown, IsUnionFrom}
+use Rattle.dots_core.proofs.Clocks.{or_swap, same_tests, among_head, among_cases, rises_lower, rises_within, rises-append, holds_low, holds_cases, same_clocks}
 use Rattle.dots_core.proofs.Names.{contains-remove_name}
 use Rattle.dots_core.proofs.Sets.{contains-retain, contains-union, same_dots}
 use Rattle.dots_core.proofs.Parts.{contains-dots_of_parts, part_past, canonical_at, parts_set, at_set, read_part, holds_none, empty_part, chosen_dots}
@@ -256,6 +256,39 @@ each_more p ks i each lt one k t =
     go : (k ≡ get_or ks i 0) ⊎ (is_among k (take i ks) ≡ true) → holds p k ≡ true
     go (inl e) = ap (holds p) e ∙ one
     go (inr t) = each k t
+
+-- clocks that are inserted one by one
+
+among_next : (j : ℕ) (ks : List ℕ) (i : ℕ) → i < length ks → is_among j (take (suc i) ks) ≡ ((j == get_or ks i 0) || is_among j (take i ks))
+among_next j [] i lt = absurd (omega arith)
+among_next j (y ∷ ys) zero lt = refl
+among_next j (y ∷ ys) (suc i) lt =
+    ap (λ b. (j == y) || b) (among_next j ys i (omega arith)) ∙ or_swap (j == y) (j == get_or ys i 0) (is_among j (take i ys))
+
+pub each_gained : (p u v : Clocks) (ks : List ℕ) (i : ℕ) → GainsEach p (take i ks) u → i < length ks → Gains u (get_or ks i 0) v →
+    GainsEach p (take (i + 1) ks) v
+each_gained p u v ks i each lt gains j =
+    let next : i + 1 ≡ suc i = omega arith in
+    gains j ∙ ap (λ b. (j == get_or ks i 0) || b) (each j)
+    ∙ sym (or_assoc (j == get_or ks i 0) (is_among j (take i ks)) (holds p j))
+    ∙ ap (λ b. b || holds p j) (sym (among_next j ks i lt) ∙ sym (ap (λ n. is_among j (take n ks)) next))
+
+pub union_few : (p q u : Clocks) → q.clock ≤ p.clock → GainsEach p q.cloud u → IsUnion p q u
+union_few p q u le each k =
+    same_tests (holds u k) (holds p k || holds q k) (λ t. there (or_cases (is_among k q.cloud) (holds p k) (sym (each k) ∙ t)))
+    (λ t. each k ∙ back (or_cases (holds p k) (holds q k) t))
+  where
+    there : (is_among k q.cloud ≡ true) ⊎ (holds p k ≡ true) → (holds p k || holds q k) ≡ true
+    there (inl t) = or_right (holds p k) (holds q k) (or_right (nat_lt 0 k && nat_le k q.clock) (is_among k q.cloud) t)
+    there (inr t) = or_left (holds p k) (holds q k) t
+
+    old : ((0 < k) × (k ≤ q.clock)) ⊎ (is_among k q.cloud ≡ true) → (is_among k q.cloud || holds p k) ≡ true
+    old (inl r) = or_right (is_among k q.cloud) (holds p k) (holds_low p k r.0 (omega arith))
+    old (inr t) = or_left (is_among k q.cloud) (holds p k) t
+
+    back : (holds p k ≡ true) ⊎ (holds q k ≡ true) → (is_among k q.cloud || holds p k) ≡ true
+    back (inl t) = or_right (is_among k q.cloud) (holds p k) t
+    back (inr t) = old (holds_cases q k t)
 
 -- a clock at the end of a cloud
 pub end_canonical : (c k : ℕ) (xs ys : List ℕ) → IsCanonical (record { clock = c; cloud = xs }) → c + 1 < k → k ≤ 1000000000 →

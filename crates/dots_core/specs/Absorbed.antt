@@ -1,4 +1,4 @@
--- How a cloud goes into the clock below it, and a run of clocks into the cloud above it.
+-- How the front of a cloud goes into the clock below it, and the numbers that go into a cloud when that clock falls.
 use Rattle.std.specs.Prelude.{ℕ, zero, suc, ◌+◌, ◌==◌, List, [], ◌∷◌, if◌then◌else◌}
 use Rattle.dots_core.specs.Clocks.{Clocks}
 

@@ -28,12 +28,12 @@ abbrev pub IsFirstFrom : Clocks → ℕ → Option ℕ → Type 0
 IsFirstFrom p k None = (j : ℕ) → k ≤ j → holds p j ≡ false
 IsFirstFrom p k (Some f) = (k ≤ f) × (holds p f ≡ true) × ((j : ℕ) → k ≤ j → j < f → holds p j ≡ false)
 
--- each clock is above the one before it, the first above b, and none is past the last clock
+-- each clock is above the one before it, the first above b, and none is past `last_clock`
 abbrev pub RisesAbove : ℕ → List ℕ → Type 0
 RisesAbove b [] = Unit {0}
 RisesAbove b (c ∷ cs) = (b < c) × (c ≤ last_clock) × RisesAbove c cs
 
--- the one way to keep these clocks: the cloud rises, and the clock after `clock` is not one of them
+-- the one way to keep these clocks: the cloud rises, its first is two above `clock` at the least, and no clock is past `last_clock`
 pub record IsCanonical (p : Clocks) : Type 0 where
   pub last : p.clock ≤ last_clock
   pub rises : RisesAbove (p.clock + 1) p.cloud
@@ -42,14 +42,14 @@ pub record IsCanonical (p : Clocks) : Type 0 where
 abbrev pub IsGreatest : ℕ → Clocks → Type 0
 IsGreatest k p = (j : ℕ) → k < j → holds p j ≡ false
 
--- after has the clocks of before, and k
+-- the clocks of `after` are those of `before`, and k
 abbrev pub Gains : Clocks → ℕ → Clocks → Type 0
 Gains before k after = (j : ℕ) → holds after j ≡ ((j == k) || holds before j)
 
--- after has the clocks of before but k
+-- the clocks of `after` are those of `before` other than k
 abbrev pub Loses : Clocks → ℕ → Clocks → Type 0
 Loses before k after = (j : ℕ) → holds after j ≡ (not (j == k) && holds before j)
 
--- u has the clocks of p and those of q
+-- the clocks of u are those of p and those of q
 abbrev pub IsUnion : Clocks → Clocks → Clocks → Type 0
 IsUnion p q u = (k : ℕ) → holds u k ≡ (holds p k || holds q k)

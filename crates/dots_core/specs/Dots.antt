@@ -48,7 +48,7 @@ dot name clock = record { name = name; clock = clock }
 abbrev pub of_names : (ℕ → Bool) → Dots → Dots
 of_names named s = set.retain s (λ d. named d.name)
 
--- the first dot of these names in the set that is not below d, if there is one
+-- the set's first dot that is of these names and not below d, if there is one
 abbrev pub IsFirstDot : (ℕ → Bool) → Dots → Dot → Option Dot → Type 0
 IsFirstDot named s d None = (q : Dot) → IsFrom d q → named q.name ≡ true → set.contains s q ≡ false
 IsFirstDot named s d (Some f) =

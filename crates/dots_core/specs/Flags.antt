@@ -3,7 +3,7 @@ use Rattle.std.specs.Prelude.{ℕ, zero, suc, Bool, List, [], ◌∷◌, if◌th
 use Rattle.std.specs.FinSet as set
 use Rattle.dots_core.specs.Names.{most_names, Names}
 
--- the places from n on at which the list has true
+-- the places at which the list has true, where its first place counts as n
 abbrev pub names_from : ℕ → List Bool → Names
 names_from n [] = set.empty
 names_from n (b ∷ bs) = if b then set.insert (names_from (suc n) bs) n else names_from (suc n) bs

@@ -12,7 +12,7 @@ abbrev pub count_down : ℕ → List ℕ
 count_down zero = []
 count_down (suc c) = suc c ∷ count_down c
 
--- the dots of the names from n on
+-- the dots of these parts, where the first part is of name n, the second of the name after it, and so on
 abbrev pub dots_from : ℕ → List Clocks → List Dot
 dots_from n [] = []
 dots_from n (p ∷ ps) = map (dot n) (count_down p.clock ++ p.cloud) ++ dots_from (suc n) ps
@@ -20,7 +20,7 @@ dots_from n (p ∷ ps) = map (dot n) (count_down p.clock ++ p.cloud) ++ dots_fro
 abbrev pub dots_of_parts : List Clocks → Dots
 dots_of_parts ps = set.from_list (dots_from 0 ps)
 
--- the clocks of the name
+-- the clocks of the name; none if the list has no part for it
 abbrev pub part_at : List Clocks → ℕ → Clocks
 part_at ps n = slice_index_or ps n no_clocks
 

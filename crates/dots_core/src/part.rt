@@ -156,6 +156,22 @@ impl<A: Allocator> Part<A> {
         }
     }
 
+    /// A copy of the part, with memory for `count` more clocks in its cloud. The length is rounded up: so a copy that is
+    /// a little longer than one before can take the memory that the earlier one leaves.
+    pub(crate) fn copy_with_room(&self, count: usize) -> Result<Part<A>, Oom>
+    where
+        A: Copy,
+        ensures { IfOk result (λ copy. copy ≡ self.now) }
+    {
+        let room = self.cloud.len().saturating_add(count) | 63;
+        let mut cloud = Vec::with_capacity(*self.cloud.allocator(), room)?;
+        cloud.extend_from_slice(&self.cloud)?;
+        Ok(Part {
+            clock: self.clock,
+            cloud,
+        })
+    }
+
     pub(crate) fn try_copy(&self) -> Result<Part<A>, Oom>
     where
         A: Copy,

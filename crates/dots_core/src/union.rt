@@ -1,13 +1,20 @@
-//! Unites the parts that two sets have of one name, in time linear in the two parts.
+//! Unites the parts that two sets have of one name, in time linear in the two parts. Where one has a long cloud and the
+//! other adds a few clocks, these are inserted into a copy.
 
 ghost use Rattle.std.specs.Prelude.{◌≡◌, ℕ, ◌<◌, ◌≤◌, [], ◌++◌, true, false, ◌||◌, IfOk, OnOk, MatchOption, length};
 ghost use Rattle.dots_core.specs.Clocks.{is_among, RisesAbove, IsCanonical, IsUnion, Gains, holds};
-ghost use Rattle.dots_core.specs.Unions.{HasEach, IsGrown, IsLeast, without_first, AddsOnly};
+ghost use Rattle.dots_core.specs.Unions.{AddsOnly, AreClocks, GainsEach, HasEach, IsGrown, IsLeast, without_first};
 ghost use Rattle.dots_core.specs.Dots.{last_clock};
 
 use crate::Oom;
 use crate::part::Part;
 use std::alloc::Allocator;
+
+/// How many clocks are inserted one by one, at most, and how long the cloud must be, at least, into which they go. Each
+/// insert moves the clocks above it at once, and a merge goes over all clocks one by one.
+const FEW: usize = 16;
+
+const LONG: usize = 64;
 
 /// The union of the two parts, or `None` if `own` has all clocks of `other` already. Only the union's cloud takes
 /// memory.
@@ -17,6 +24,9 @@ pub(crate) fn grown<A: Allocator + Copy>(
 ) -> Result<Option<Part<A>>, Oom>
     ensures { IfOk result (IsGrown own.now other.now) }
 {
+    if other.clock <= own.clock && other.cloud.len() <= FEW && own.cloud.len() >= LONG {
+        return grown_by_few(own, other);
+    }
     if other.clock <= own.clock && has_each(own, &other.cloud) {
         return Ok(None);
     }
@@ -32,6 +42,33 @@ pub(crate) fn grown<A: Allocator + Copy>(
         right = after(right, next);
     }
     Ok(Some(union))
+}
+
+/// Like `grown`, for an `other` whose context clock isn't above that of `own`: inserts the clocks of its cloud into a
+/// copy of `own`.
+fn grown_by_few<A: Allocator + Copy>(own: &Part<A>, other: &Part<A>) -> Result<Option<Part<A>>, Oom>
+    requires { other.now.clock ≤ own.now.clock }
+    ensures { IfOk result (IsGrown own.now other.now) }
+{
+    if own.has_all_of(other) {
+        return Ok(None);
+    }
+    let mut union = own.copy_with_room(other.cloud.len())?;
+    insert_each(&mut union, &other.cloud)?;
+    // form: the proof reads that the part is canonical
+    let _ = &union.clock;
+    Ok(Some(union))
+}
+
+/// Inserts these clocks into the part. If memory is refused, some may be in.
+fn insert_each<A: Allocator>(part: &mut Part<A>, clocks: &[u64]) -> Result<(), Oom>
+    requires { AreClocks clocks.now }
+    ensures { OnOk result (GainsEach part.old clocks.now part.new) }
+{
+    for clock in clocks {
+        part.insert(*clock)?;
+    }
+    Ok(())
 }
 
 /// Whether `own` has each of `clocks`. If `clocks` doesn't rise, the result may be `false` although `own` has them all.
