@@ -1,4 +1,5 @@
 pub mod Numbers
+pub mod Sights
 pub mod FirstSights
 pub mod Values
 pub mod Kept

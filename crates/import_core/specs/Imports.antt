@@ -4,9 +4,10 @@ use Rattle.dots_core.specs.Names.{most_names}
 use Rattle.event_order.specs.Ordering.{IsOrdered, no_event}
 use Rattle.log_core.specs.Events.{Line}
 use Rattle.log_core.specs.Lines.{Numbered, Say, Says, lines_of}
-use Rattle.import_core.specs.Tables.{AllTables}
+use Rattle.import_core.specs.Tables.{AllTables, no_tables}
 use Rattle.import_core.specs.Lenient.{Stay}
 use Rattle.import_core.specs.Notes.{Note, IsNoteOf, AreNotesOf, logged_of}
+use Rattle.import_core.specs.Sights.{SeesValues, pids_on, words_on}
 use Rattle.import_core.specs.Seen.{names_on, with_texts}
 
 -- these are the notes of the events that the lines have
@@ -39,7 +40,8 @@ abbrev pub number_at : List Note → ℕ → ℕ
 number_at notes place = (note_at notes place).number
 
 -- the notes of the input's events that stay, of which there is at least one; the lines of those that are left out; the nearest order
--- of those that stay; and the nodes, which are those that the lines name, by first sight, and at most 32
+-- of those that stay; the nodes, which are those that the lines name, by first sight, and at most 32; and the processes and the cut
+-- words, numbered by first sight, too
 pub record IsImportOf (lenient : Bool) (bytes : List ℕ) (t : AllTables) (notes : List Note) (order left_out : List ℕ) : Type 0 where
   pub all : List Note
   pub noted : AreNoted t (lines_of bytes) all
@@ -49,3 +51,4 @@ pub record IsImportOf (lenient : Bool) (bytes : List ℕ) (t : AllTables) (notes
   pub lines : length (lines_of bytes) < 2 ^ 64
   pub nodes : t.nodes ≡ with_texts [] (names_on (lines_of bytes))
   pub few : length t.nodes ≤ most_names
+  pub values : SeesValues no_tables t (pids_on (lines_of bytes)) (words_on (lines_of bytes))

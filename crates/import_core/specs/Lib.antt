@@ -4,5 +4,6 @@ pub mod Listed
 pub mod Notes
 pub mod Lenient
 pub mod Seen
+pub mod Sights
 pub mod Imports
 pub mod Faults

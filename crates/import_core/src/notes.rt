@@ -7,6 +7,7 @@ ghost use Rattle.import_core.specs.Tables.{Keeps, all_of};
 ghost use Rattle.import_core.specs.Notes.{IsNoteOf, note_of, awaited};
 ghost use Rattle.import_core.specs.Imports.{AddsNote, AreNoted, IsNoted};
 ghost use Rattle.import_core.specs.Seen.{HasTooMany, SeesNodes, names_if, names_in, names_on, said};
+ghost use Rattle.import_core.specs.Sights.{SeesValues, pids_in, pids_of, pids_on, words_in, words_of, words_on};
 ghost use Rattle.import_core.specs.Faults.{IsWrong, IsLineFault};
 
 use crate::fault::{FaultKind, ImportFault};
@@ -56,6 +57,8 @@ fn note_for<A: Allocator + Copy>(
     ensures note { IfOk result (λ n. IsNoteOf (all_of tables.new) (record { number = number; line = shown_line line.now }) (note_of n)) }
     ensures seen { OnOk result (SeesNodes (all_of tables.old) (all_of tables.new) (names_in (shown_line line.now))) }
     ensures extends { Keeps (all_of tables.old) (all_of tables.new) }
+    ensures values { OnOk result (SeesValues (all_of tables.old) (all_of tables.new)
+        (pids_in (shown_line line.now).event) (words_in (shown_line line.now).event)) }
     ensures many { result ≡ Err NoteFault.TooManyNodes → HasTooMany (all_of tables.old) (names_in (shown_line line.now)) }
 {
     let node = tables.node(line.node)?;
@@ -83,6 +86,8 @@ fn note_of_event<A: Allocator + Copy>(
     ensures few { OnOk result (length (all_of tables.new).nodes ≤ most_names) }
     ensures seen { OnOk result (SeesNodes (all_of tables.old) (all_of tables.new) (names_in (shown_line line.now))) }
     ensures extends { Keeps (all_of tables.old) (all_of tables.new) }
+    ensures values { OnOk result (SeesValues (all_of tables.old) (all_of tables.new)
+        (pids_in (shown_line line.now).event) (words_in (shown_line line.now).event)) }
     ensures many { result ≡ Err NoteFault.TooManyNodes → HasTooMany (all_of tables.old) (names_in (shown_line line.now)) }
 {
     let note = note_for(heap, alloc, tables, number, line)?;
@@ -108,6 +113,8 @@ fn note_of_line<A: Allocator + Copy>(
     ensures few { OnOk result (length (all_of tables.old).nodes ≤ most_names → length (all_of tables.new).nodes ≤ most_names) }
     ensures seen { OnOk result (SeesNodes (all_of tables.old) (all_of tables.new) (names_if (said line.now))) }
     ensures extends { Keeps (all_of tables.old) (all_of tables.new) }
+    ensures values { OnOk result (SeesValues (all_of tables.old) (all_of tables.new)
+        (pids_of (said line.now)) (words_of (said line.now))) }
     ensures wrong { IfErr result (IsWrong (all_of tables.old).nodes line.now) }
 {
     let Some(value) = value_of_line(heap, line)? else {
@@ -141,6 +148,8 @@ fn add_line<A: Allocator + Copy>(
     ensures few { OnOk result (length (all_of tables.old).nodes ≤ most_names → length (all_of tables.new).nodes ≤ most_names) }
     ensures seen { OnOk result (SeesNodes (all_of tables.old) (all_of tables.new) (names_if (said line.now))) }
     ensures extends { Keeps (all_of tables.old) (all_of tables.new) }
+    ensures values { OnOk result (SeesValues (all_of tables.old) (all_of tables.new)
+        (pids_of (said line.now)) (words_of (said line.now))) }
     ensures wrong { IfErr result (IsWrong (all_of tables.old).nodes line.now) }
 {
     let note = note_of_line(heap, alloc, tables, number, line)?;
@@ -160,6 +169,8 @@ pub(crate) fn noted_all<A: Allocator + Copy>(
 ) -> Result<Vec<Noted<A>, A>, ImportFault>
     ensures notes { IfOk result (λ notes. AreNoted (all_of tables.new) (map (λ line. line.now) lines.now) (map note_of notes.items)) }
     ensures seen { OnOk result (SeesNodes (all_of tables.old) (all_of tables.new) (names_on (map (λ line. line.now) lines.now))) }
+    ensures values { OnOk result (SeesValues (all_of tables.old) (all_of tables.new)
+        (pids_on (map (λ line. line.now) lines.now)) (words_on (map (λ line. line.now) lines.now))) }
     ensures few { OnOk result (length (all_of tables.old).nodes ≤ most_names → length (all_of tables.new).nodes ≤ most_names) }
     ensures lines { length lines.now < 2 ^ 64 }
     ensures fault { IfErr result (IsLineFault (all_of tables.old).nodes (map (λ line. line.now) lines.now)) }

@@ -9,6 +9,7 @@ ghost use Rattle.log_core.specs.Views.{tracked as shown_tracked, event as shown_
 ghost use Rattle.import_core.specs.Tables.{AllTables, Keeps, all_of, IsWordOf, IsNodeOf, IsMessageOf};
 ghost use Rattle.import_core.specs.Steps.{IsPresenceOf, IsStepOf, IsSentOf, AreNodesOf, presence_of, is_own, is_message, is_status, is_online};
 ghost use Rattle.import_core.specs.Seen.{HasTooMany, SeesNodes, message_names, names_among, status_names, step_names};
+ghost use Rattle.import_core.specs.Sights.{SeesValues, own_pids, own_words, tracked_words};
 
 use crate::note_fault::NoteFault;
 use crate::tables::Tables;
@@ -39,6 +40,8 @@ pub(crate) fn presence_for<A: Allocator + Copy>(
     ensures presence { IfOk result (λ p. IsPresenceOf (all_of tables.new) (shown_tracked tracked.now) (presence_of p)) }
     ensures same_nodes { tables.new.nodes ≡ tables.old.nodes }
     ensures extends { Keeps (all_of tables.old) (all_of tables.new) }
+    ensures values { OnOk result (SeesValues (all_of tables.old) (all_of tables.new)
+        ((shown_tracked tracked.now).pid ∷ []) (tracked_words (shown_tracked tracked.now))) }
 {
     let pid = tables.pid(heap, tracked.pid)?;
     let topic = tables.word(heap, alloc, tracked.topic)?;
@@ -64,6 +67,8 @@ fn leave_for<A: Allocator + Copy>(
     ensures step { IfOk result (λ s. IsStepOf (all_of tables.new) (leave (view pid.now) (view topic.now) (view key.now)) (plain s)) }
     ensures same_nodes { tables.new.nodes ≡ tables.old.nodes }
     ensures extends { Keeps (all_of tables.old) (all_of tables.new) }
+    ensures values { OnOk result (SeesValues (all_of tables.old) (all_of tables.new)
+        (view pid.now ∷ []) (view topic.now ∷ view key.now ∷ [])) }
 {
     let pid = tables.pid(heap, pid)?;
     let topic = tables.word(heap, alloc, topic)?;
@@ -83,6 +88,7 @@ fn taken_from<A: Allocator + Copy>(
     ensures message { IfOk result (λ m. IsMessageOf (all_of tables.new) m.0 (view message.now) m.1) }
     ensures seen { OnOk result (SeesNodes (all_of tables.old) (all_of tables.new) (from.now ∷ [])) }
     ensures extends { Keeps (all_of tables.old) (all_of tables.new) }
+    ensures values { OnOk result (SeesValues (all_of tables.old) (all_of tables.new) [] []) }
     ensures many { result ≡ Err NoteFault.TooManyNodes → HasTooMany (all_of tables.old) (from.now ∷ []) }
 {
     let sender = tables.node(from)?;
@@ -99,6 +105,7 @@ fn nodes_for<A: Allocator + Copy>(
     ensures nodes { IfOk result (λ nodes. AreNodesOf (all_of tables.new) set.empty (items_view names.now) nodes) }
     ensures seen { OnOk result (SeesNodes (all_of tables.old) (all_of tables.new) (names_among (items_view names.now))) }
     ensures extends { Keeps (all_of tables.old) (all_of tables.new) }
+    ensures values { OnOk result (SeesValues (all_of tables.old) (all_of tables.new) [] []) }
     ensures many { result ≡ Err NoteFault.TooManyNodes → HasTooMany (all_of tables.old) (names_among (items_view names.now)) }
 {
     let mut nodes = NameSet::empty();
@@ -120,6 +127,8 @@ fn join_for<A: Allocator + Copy>(
     ensures step { IfOk result (λ s. IsStepOf (all_of tables.new) (join (shown_tracked tracked.now)) (plain s)) }
     ensures same_nodes { tables.new.nodes ≡ tables.old.nodes }
     ensures extends { Keeps (all_of tables.old) (all_of tables.new) }
+    ensures values { OnOk result (SeesValues (all_of tables.old) (all_of tables.new)
+        ((shown_tracked tracked.now).pid ∷ []) (tracked_words (shown_tracked tracked.now))) }
 {
     let p = presence_for(heap, alloc, tables, tracked)?;
     Ok(Step::Join {
@@ -140,6 +149,8 @@ fn update_for<A: Allocator + Copy>(
     ensures step { IfOk result (λ s. IsStepOf (all_of tables.new) (update (shown_tracked tracked.now)) (plain s)) }
     ensures same_nodes { tables.new.nodes ≡ tables.old.nodes }
     ensures extends { Keeps (all_of tables.old) (all_of tables.new) }
+    ensures values { OnOk result (SeesValues (all_of tables.old) (all_of tables.new)
+        ((shown_tracked tracked.now).pid ∷ []) (tracked_words (shown_tracked tracked.now))) }
 {
     let p = presence_for(heap, alloc, tables, tracked)?;
     Ok(Step::Update {
@@ -161,6 +172,8 @@ fn own_step_for<A: Allocator + Copy>(
     ensures some { IfOk result (λ s. is_some s ≡ is_own (shown_event event.now)) }
     ensures same_nodes { tables.new.nodes ≡ tables.old.nodes }
     ensures extends { Keeps (all_of tables.old) (all_of tables.new) }
+    ensures values { OnOk result (SeesValues (all_of tables.old) (all_of tables.new)
+        (own_pids (shown_event event.now)) (own_words (shown_event event.now))) }
 {
     match event {
         LogEvent::Join(tracked) => Ok(Some(join_for(heap, alloc, tables, tracked)?)),
@@ -186,6 +199,7 @@ fn answer_for<A: Allocator + Copy>(
         × IsMessageOf (all_of tables.new) n (view message.now) k) }
     ensures seen { OnOk result (SeesNodes (all_of tables.old) (all_of tables.new) (from.now ∷ [])) }
     ensures extends { Keeps (all_of tables.old) (all_of tables.new) }
+    ensures values { OnOk result (SeesValues (all_of tables.old) (all_of tables.new) [] []) }
     ensures many { result ≡ Err NoteFault.TooManyNodes → HasTooMany (all_of tables.old) (from.now ∷ []) }
 {
     let (sender, number) = taken_from(heap, tables, from, message)?;
@@ -202,6 +216,7 @@ fn deliver_for<A: Allocator + Copy>(
     ensures step { IfOk result (λ s. IsStepOf (all_of tables.new) (deliver from.now (view message.now)) (plain s)) }
     ensures seen { OnOk result (SeesNodes (all_of tables.old) (all_of tables.new) (from.now ∷ [])) }
     ensures extends { Keeps (all_of tables.old) (all_of tables.new) }
+    ensures values { OnOk result (SeesValues (all_of tables.old) (all_of tables.new) [] []) }
     ensures many { result ≡ Err NoteFault.TooManyNodes → HasTooMany (all_of tables.old) (from.now ∷ []) }
 {
     let (sender, number) = taken_from(heap, tables, from, message)?;
@@ -218,6 +233,7 @@ fn message_step_for<A: Allocator + Copy>(
     ensures some { IfOk result (λ s. is_some s ≡ is_message (shown_event event.now)) }
     ensures seen { OnOk result (SeesNodes (all_of tables.old) (all_of tables.new) (message_names (shown_event event.now))) }
     ensures extends { Keeps (all_of tables.old) (all_of tables.new) }
+    ensures values { OnOk result (SeesValues (all_of tables.old) (all_of tables.new) [] []) }
     ensures many { result ≡ Err NoteFault.TooManyNodes → HasTooMany (all_of tables.old) (message_names (shown_event event.now)) }
 {
     match event {
@@ -245,6 +261,7 @@ fn status_for<A: Allocator + Copy>(
     ensures some { IfOk result (λ s. is_some s ≡ is_status (shown_event event.now)) }
     ensures seen { OnOk result (SeesNodes (all_of tables.old) (all_of tables.new) (status_names (shown_event event.now))) }
     ensures extends { Keeps (all_of tables.old) (all_of tables.new) }
+    ensures values { OnOk result (SeesValues (all_of tables.old) (all_of tables.new) [] []) }
     ensures many { result ≡ Err NoteFault.TooManyNodes → HasTooMany (all_of tables.old) (status_names (shown_event event.now)) }
 {
     match event {
@@ -273,6 +290,8 @@ pub(crate) fn step_for<A: Allocator + Copy>(
     ensures some { IfOk result (λ s. is_some s ≡ not (is_online (shown_event event.now))) }
     ensures seen { OnOk result (SeesNodes (all_of tables.old) (all_of tables.new) (step_names (shown_event event.now))) }
     ensures extends { Keeps (all_of tables.old) (all_of tables.new) }
+    ensures values { OnOk result (SeesValues (all_of tables.old) (all_of tables.new)
+        (own_pids (shown_event event.now)) (own_words (shown_event event.now))) }
     ensures many { result ≡ Err NoteFault.TooManyNodes → HasTooMany (all_of tables.old) (step_names (shown_event event.now)) }
 {
     match event {
@@ -295,6 +314,7 @@ pub(crate) fn sent_by<A: Allocator + Copy>(
     ensures sends { IfOk result (λ sends. IsSentOf (all_of tables.new) node (shown_event event.now) sends) }
     ensures same_nodes { tables.new.nodes ≡ tables.old.nodes }
     ensures extends { Keeps (all_of tables.old) (all_of tables.new) }
+    ensures values { OnOk result (SeesValues (all_of tables.old) (all_of tables.new) [] []) }
 {
     // form: each arm is a case of the proof
     match event {

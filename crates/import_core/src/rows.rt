@@ -5,6 +5,7 @@ ghost use Rattle.log_core.specs.Views.{event as shown_event, row as shown_row};
 ghost use Rattle.import_core.specs.Tables.{Keeps, all_of};
 ghost use Rattle.import_core.specs.Listed.{AreRowsOf, IsListOf, IsRowOf};
 ghost use Rattle.import_core.specs.Seen.{HasTooMany, SeesNodes, nodes_among, row_names};
+ghost use Rattle.import_core.specs.Sights.{SeesValues, pids_among, row_pids, row_words, tracked_words, words_among};
 
 use crate::note_fault::NoteFault;
 use crate::noting::presence_for;
@@ -26,6 +27,8 @@ fn row_for<A: Allocator + Copy>(
     ensures row { IfOk result (λ r. IsRowOf (all_of tables.new) (shown_row row.now) r) }
     ensures seen { OnOk result (SeesNodes (all_of tables.old) (all_of tables.new) ((shown_row row.now).node ∷ [])) }
     ensures extends { Keeps (all_of tables.old) (all_of tables.new) }
+    ensures values { OnOk result (SeesValues (all_of tables.old) (all_of tables.new)
+        ((shown_row row.now).tracked.pid ∷ []) (tracked_words (shown_row row.now).tracked)) }
     ensures many { result ≡ Err NoteFault.TooManyNodes → HasTooMany (all_of tables.old) ((shown_row row.now).node ∷ []) }
 {
     let name = tables.node(row.node)?;
@@ -62,6 +65,8 @@ fn rows_for<A: Allocator + Copy>(
     ensures rows { IfOk result (λ rows. AreRowsOf (all_of tables.new) [] (items_view values.now) rows.items) }
     ensures seen { OnOk result (SeesNodes (all_of tables.old) (all_of tables.new) (nodes_among (items_view values.now))) }
     ensures extends { Keeps (all_of tables.old) (all_of tables.new) }
+    ensures values { OnOk result (SeesValues (all_of tables.old) (all_of tables.new)
+        (pids_among (items_view values.now)) (words_among (items_view values.now))) }
     ensures many { result ≡ Err NoteFault.TooManyNodes → HasTooMany (all_of tables.old) (nodes_among (items_view values.now)) }
 {
     let mut rows = Vec::new(alloc);
@@ -84,6 +89,8 @@ pub(crate) fn listed_for<A: Allocator + Copy>(
     ensures rows { IfOk result (λ rows. IsListOf (all_of tables.new) (shown_event event.now) rows.items) }
     ensures seen { OnOk result (SeesNodes (all_of tables.old) (all_of tables.new) (row_names (shown_event event.now))) }
     ensures extends { Keeps (all_of tables.old) (all_of tables.new) }
+    ensures values { OnOk result (SeesValues (all_of tables.old) (all_of tables.new)
+        (row_pids (shown_event event.now)) (row_words (shown_event event.now))) }
     ensures many { result ≡ Err NoteFault.TooManyNodes → HasTooMany (all_of tables.old) (row_names (shown_event event.now)) }
 {
     match event {

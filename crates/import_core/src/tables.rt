@@ -1,9 +1,10 @@
 //! `Tables`: which number stands for which text.
-ghost use Rattle.std.specs.Prelude.{◌≡◌, ◌<◌, ◌^◌, ◌++◌, Some, Err, IfOk, OnOk, length, string_bytes, decimal, codes};
+ghost use Rattle.std.specs.Prelude.{◌≡◌, ◌<◌, ◌^◌, ◌++◌, ◌∷◌, [], Some, Err, IfOk, OnOk, length, string_bytes, decimal, codes};
 ghost use Rattle.serde_json.specs.View.{view};
 ghost use Rattle.dots_core.specs.Names.{most_names};
 ghost use Rattle.import_core.specs.Tables.{IsTextOf, IsWordOf, IsNumberOf, IsNodeOf, IsMessageOf, Extends, Keeps, all_of, no_tables, message_text};
 ghost use Rattle.import_core.specs.Seen.{with_text};
+ghost use Rattle.import_core.specs.Sights.{SeesPid, SeesValues, SeesWord};
 
 use crate::note_fault::NoteFault;
 use crate::numbering::numbered;
@@ -32,6 +33,7 @@ fn number_in<A: Allocator + Copy>(
     value: &Value,
 ) -> Result<u64, Oom>
     ensures number { IfOk result (λ n. IsNumberOf texts.new (view value.now) n) }
+    ensures sees { OnOk result (SeesPid texts.old (view value.now) texts.new) }
     ensures extends { Extends texts.old texts.new }
 {
     let text = text_of(heap, value)?;
@@ -46,6 +48,7 @@ fn word_in<A: Allocator + Copy>(
     value: &Value,
 ) -> Result<Word<A>, Oom>
     ensures word { IfOk result (λ word. IsWordOf longs.new (view value.now) word) }
+    ensures sees { OnOk result (SeesWord longs.old (view value.now) longs.new) }
     ensures extends { Extends longs.old longs.new }
 {
     let spelling = spelling_of(heap, value)?;
@@ -81,6 +84,7 @@ impl<A: Allocator + Copy> Tables<A> {
     /// The word of a value as a topic, a key or metadata. A new value whose word must be cut gets the next number.
     pub(crate) fn word(&mut self, heap: Global, alloc: A, value: &Value) -> Result<Word<A>, Oom>
         ensures word { IfOk result (λ word. IsWordOf self.new.longs (view value.now) word) }
+        ensures values { OnOk result (SeesValues (all_of self.old) (all_of self.new) [] (view value.now ∷ [])) }
         ensures same_nodes { self.new.nodes ≡ self.old.nodes }
         ensures extends { Keeps (all_of self.old) (all_of self.new) }
     {
@@ -90,6 +94,7 @@ impl<A: Allocator + Copy> Tables<A> {
     /// The number of a process. A process that wasn't seen before gets the next number.
     pub(crate) fn pid(&mut self, heap: Global, value: &Value) -> Result<u64, Oom>
         ensures pid { IfOk result (λ pid. IsNumberOf self.new.pids (view value.now) pid) }
+        ensures values { OnOk result (SeesValues (all_of self.old) (all_of self.new) (view value.now ∷ []) []) }
         ensures same_nodes { self.new.nodes ≡ self.old.nodes }
         ensures extends { Keeps (all_of self.old) (all_of self.new) }
     {
@@ -102,6 +107,7 @@ impl<A: Allocator + Copy> Tables<A> {
         ensures node { IfOk result (λ node. IsNodeOf (all_of self.new) name.now node) }
         ensures few { IfOk result (λ node. node < most_names) }
         ensures seen { OnOk result (self.new.nodes ≡ with_text self.old.nodes name.now) }
+        ensures values { OnOk result (SeesValues (all_of self.old) (all_of self.new) [] []) }
         ensures extends { Keeps (all_of self.old) (all_of self.new) }
         ensures many { result ≡ Err NoteFault.TooManyNodes → most_names < length (with_text self.old.nodes name.now) }
     {
@@ -115,6 +121,7 @@ impl<A: Allocator + Copy> Tables<A> {
     /// The number of this sender's message. A message that wasn't seen before gets the next number.
     pub(crate) fn message(&mut self, heap: Global, sender: u16, value: &Value) -> Result<usize, Oom>
         ensures message { IfOk result (λ message. IsMessageOf (all_of self.new) sender (view value.now) message) }
+        ensures values { OnOk result (SeesValues (all_of self.old) (all_of self.new) [] []) }
         ensures same_nodes { self.new.nodes ≡ self.old.nodes }
         ensures extends { Keeps (all_of self.old) (all_of self.new) }
     {

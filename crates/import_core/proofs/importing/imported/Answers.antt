@@ -6,6 +6,7 @@ use Rattle.event_order.specs.Ordering.{HasNodes, HasMessages, IsOrdered}
 use Rattle.log_core.specs.Lines.{lines_of}
 use Rattle.import_core.specs.Tables.{AllTables, all_of}
 use Rattle.import_core.specs.Notes.{Note, note_of, logged_of}
+use Rattle.import_core.specs.Sights.{SeesValues, pids_on, words_on}
 use Rattle.import_core.specs.Seen.{names_on, with_texts}
 use Rattle.import_core.specs.Imports.{AreNoted}
 use Rattle.import_core.specs.Faults.{IsLineFault, IsNotesFault, IsImportFault}
@@ -81,4 +82,6 @@ returns-clause-import g c =
           ∙ ap (λ ns. with_texts ns (names_on (lines_of bytes))) (ap (λ (t : AllTables). t.nodes) c.new-tables.ensures);
       lines = subst (λ n. n < 2 ^ 64) (sym long) c.in_ok-notes.ensures.lines;
       few = c.in_ok-notes.ensures.few (omega (arith, none));
+      values = subst (λ (start : AllTables). SeesValues start t (pids_on (lines_of bytes)) (words_on (lines_of bytes))) c.new-tables.ensures
+          (subst (λ ls. SeesValues (all_of c.new-tables.result) t (pids_on ls) (words_on ls)) at c.in_ok-notes.ensures.values);
     }

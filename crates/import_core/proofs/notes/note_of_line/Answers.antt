@@ -4,8 +4,11 @@ use Rattle.serde_json.specs.View.{view}
 use Rattle.log_core.specs.Lines.{IsValueOf, Says}
 use Rattle.log_core.specs.Views.{line as shown_line}
 use Rattle.import_core.specs.Faults.{IsWrong}
+use Rattle.import_core.specs.Sights.{SeesValues, pids_of, words_of}
+use Rattle.import_core.specs.Tables.{all_of}
 use Rattle.import_core.specs.Seen.{names_if, with_texts}
 use Rattle.import_core.proofs.FirstSights.{said_is}
+use Rattle.import_core.proofs.Sights.{no_values}
 use Rattle.import_core.proofs.NotedLines.{wrong_note}
 use Rattle.import_core.proofs.notes.note_of_line.Goals as goal
 
@@ -36,3 +39,16 @@ pub returns-in_default-clause-seen : goal.returns-in_default-clause-seen
 returns-in_default-clause-seen g c =
     let says : Says c.args.line.now None = subst (λ o. IsValueOf c.args.line.now (option_map view o)) c.in_default.is c.in_ok-value.ensures.ok in
     sym (ap (λ o. with_texts c.args.tables.now.nodes (names_if o)) (said_is c.args.line.now None says))
+
+pub returns-clause-values : goal.returns-clause-values
+returns-clause-values g c =
+    let says : Says c.args.line.now (Some (shown_line c.in-Some-line_at.event)) =
+    (view c.in-Some.value, subst (λ o. IsValueOf c.args.line.now (option_map view o)) c.in-Some.is c.in_ok-value.ensures.ok, sym c.in-Some-line_at.ensures) in
+    subst (λ o. SeesValues (all_of c.args.tables.now) (all_of c.note_of_event.new.tables) (pids_of o) (words_of o))
+    (sym (said_is c.args.line.now (Some (shown_line c.in-Some-line_at.event)) says)) c.in_ok-note.ensures.values
+
+pub returns-in_default-clause-values : goal.returns-in_default-clause-values
+returns-in_default-clause-values g c =
+    let says : Says c.args.line.now None = subst (λ o. IsValueOf c.args.line.now (option_map view o)) c.in_default.is c.in_ok-value.ensures.ok in
+    subst (λ o. SeesValues (all_of c.args.tables.now) (all_of c.args.tables.now) (pids_of o) (words_of o)) (sym (said_is c.args.line.now None says))
+    (no_values (all_of c.args.tables.now))

@@ -4,9 +4,11 @@ use Rattle.std.proofs.lemmas.List.{take_more, map-append, get_or-map, length-map
 use Rattle.import_core.specs.Tables.{AllTables, all_of}
 use Rattle.import_core.specs.Notes.{Note, note_of}
 use Rattle.import_core.specs.Imports.{AreNoted}
+use Rattle.import_core.specs.Sights.{SeesValues, pids_on, words_on}
 use Rattle.import_core.specs.Seen.{names_if, names_on, said, with_texts}
 use Rattle.import_core.specs.Faults.{IsLineFault, IsWrong, nodes_before}
 use Rattle.import_core.proofs.FirstSights.{names_more}
+use Rattle.import_core.proofs.Sights.{values_on_more}
 use Rattle.import_core.proofs.NotedLines.{noted_more, later_noted, line_fault, take_map}
 use Rattle.import_core.proofs.notes.noted_all.Goals as goal
 
@@ -55,5 +57,7 @@ loop-index-preserved g c =
           (noted_more new (i + 1) before notes line adds.0 (omega (arith, long)) (later_noted old new c.add_line.ensures.extends before notes c.loop-index.invariant.noted) adds.1));
       seen = c.in_default.ensures.seen ∙ ap (λ ns. with_texts ns (names_if (said line))) c.loop-index.invariant.seen
           ∙ names_more c.args.tables.now.nodes before line ∙ ap (λ ls. with_texts c.args.tables.now.nodes (names_on ls)) (sym more);
+      values = subst (λ ls. SeesValues (all_of c.args.tables.now) new (pids_on ls) (words_on ls)) (sym more)
+          (values_on_more (all_of c.args.tables.now) old new before line c.loop-index.invariant.values c.in_default.ensures.values);
       few = λ low. c.in_default.ensures.few (c.loop-index.invariant.few low);
     }

@@ -10,6 +10,7 @@ use Rattle.import_core.specs.Seen.{names_among, text_if, with_text, with_texts}
 use Rattle.import_core.proofs.FirstSights.{all_longer}
 use Rattle.import_core.proofs.Numbers.{keeps_both, keeps_itself}
 use Rattle.import_core.proofs.Kept.{later_node}
+use Rattle.import_core.proofs.Sights.{values_more}
 use Rattle.import_core.proofs.noting.nodes_for.Goals as goal
 use Rattle.import_core.proofs.noting.nodes_for.Goals.{in-Some+in_ok-node, in_default}
 
@@ -28,6 +29,7 @@ loop-value-preserved g c =
           let new : AllTables = all_of w.node.new.self in
           rw (w.tables-is, w.nodes-is) (record {
             kept = keeps_both (all_of c.args.tables.now) old new c.loop-value.invariant.kept w.node.ensures.extends;
+            values = values_more (all_of c.args.tables.now) old new [] [] [] [] c.loop-value.invariant.values w.in_ok-node.ensures.values;
             seen = ap (λ ns. with_texts ns rest) w.in_ok-node.ensures.seen ∙ ap (λ o. with_texts old.nodes (text_if o ++ rest)) w.in-Some.ensures ∙ left;
             nodes = λ t all keeps rest.
                 let here : NodeIn t c.loop-value.nodes (Some w.in-Some.name.now) (λ more. AreNodesOf t more (items_view (drop (i + 1) names)) all) = (
@@ -42,6 +44,7 @@ loop-value-preserved g c =
       | in_default w ↦
           rw (w.tables-is, w.nodes-is) (record {
             kept = c.loop-value.invariant.kept;
+            values = c.loop-value.invariant.values;
             seen = ap (λ o. with_texts old.nodes (text_if o ++ rest)) w.in_default.ensures ∙ left;
             nodes = λ t all keeps rest.
                 let here : NodeIn t c.loop-value.nodes None (λ more. AreNodesOf t more (items_view (drop (i + 1) names)) all) = rest in
