@@ -23,7 +23,8 @@ pub record Edits {T : Type 0} (P : List T → T → List T → T → Type 0) (xs
   pub edited : P parted.before parted.value parted.after left
   pub gives : ys ≡ parted.before ++ left ∷ parted.after
 
--- a node of the cluster may take the step: the nodes that it names are there, and the meter can count it
+-- a node of the cluster may take the step: the cluster has no more nodes than there are names, each at the place of its name, the nodes
+-- that the step names are there, and the meter can count the step
 pub record MayStep (c : Cluster) (s : Operation) (count : ℕ) : Type 0 where
   pub few : length c ≤ most_names
   pub named : list_all (λ k. nat_lt k (length c)) (named_in s) ≡ true

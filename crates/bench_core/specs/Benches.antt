@@ -1,4 +1,4 @@
--- What a bench keeps, and what answers a step of one of its nodes and a step back.
+-- What a bench keeps, and how a step of one of its nodes and the undo of a step are answered.
 use Rattle.std.specs.Prelude.{◌≡◌, ◌≢◌, ℕ, ◌+◌, ◌≤◌, IsTrue, List, length, slice_get, slice_set, Option, Some, None, Result, Ok, Err}
 use Rattle.dots_core.specs.Names.{most_names}
 use Rattle.replica_core.specs.Replicas.{own_clock}
@@ -20,11 +20,11 @@ use Rattle.bench_core.specs.Clusters.{Cluster, step, opening_of, message_for, fa
 use Rattle.bench_core.specs.Machine.{Config, State, Machine, config_of, cluster_of, given, undo_reply, now}
 use Rattle.bench_core.specs.Headline.{IsReached}
 
--- each node is one that steps can make
+-- each node of the cluster keeps the invariant of a node
 abbrev pub AreNodes : Cluster → Type 0
 AreNodes c = (n : ℕ) (x : Node) → slice_get c n ≡ Some x → IsNode x
 
--- what each bench keeps, at rest
+-- what each bench keeps, whatever was called on it
 pub record IsBench (c : Config) (s : State) (nodes : Cluster) (hs : List Held) (taken : ℕ) : Type 0 where
   -- some calls lead to its state
   pub reached : IsReached c s
@@ -40,7 +40,8 @@ pub record IsBench (c : Config) (s : State) (nodes : Cluster) (hs : List Held) (
   pub few : c.nodes ≤ most_names
   pub kept : AreNodes nodes
 
--- the cluster that the remaining steps give: it has a node for each name, and no own clock is above its limit
+-- the cluster that the remaining steps give: it has a node for each name, each node has the machine's limits, and no own clock is above
+-- its limit
 pub record HasCluster (m : Machine) : Type 0 where
   pub cluster : Cluster
   pub is_now : cluster_of m ≡ Ok cluster
@@ -54,12 +55,12 @@ pub record IsMachine (m : Machine) : Type 0 where
   pub reached : IsReached (config_of m) m.state
   -- the remaining steps give its nodes
   pub cluster : HasCluster m
-  -- the history and the remaining steps keep within their bound, and so do the numbers that were given
+  -- the history and the remaining steps together keep within the limit on acts, and so does the count of the numbers that were given
   pub fits : length m.state.history + length m.state.remaining ≤ m.limits.acts
   pub taken : given m.state.history ≤ m.limits.acts
-  -- the remaining steps have numbers that were given
+  -- no remaining step has a number above the count of the numbers that were given
   pub numbers : AreBelow (given m.state.history + 1) m.state.remaining
-  -- the limits are in their ranges, and the names are few
+  -- the limits are in their ranges, and there are at most `most_names` names
   pub limits : AreLimits m.limits
   pub few : length m.names ≤ most_names
 
@@ -73,7 +74,7 @@ pub record IsCluster (c : Cluster) : Type 0 where
   pub numbered : IsNumbered c
   pub few : length c ≤ most_names
 
--- the step of node n was accepted, and its inverse leads back
+-- step s of node n was accepted, which made cluster d of c, and inverse i leads the node back
 pub record IsTaken (c : Cluster) (n : ℕ) (s : Operation) (i : Inverse) (d : Cluster) : Type 0 where
   pub earlier : Node
   pub later : Node
@@ -83,16 +84,16 @@ pub record IsTaken (c : Cluster) (n : ℕ) (s : Operation) (i : Inverse) (d : Cl
   pub gives : d ≡ slice_set c n later
   pub kept : IsNode later
 
--- a step of node n was accepted; or it was refused with the fault of the definition, or for want of memory, and nothing changed
+-- the step of node n was accepted; or it was refused with the fault that `step` gives, or for want of memory, and nothing changed
 abbrev pub Steps : {X : Type 0} → Cluster → ℕ → Operation → Result (declared.Inverse X) StepFault → Cluster → Type 0
 Steps c n s (Ok i) d = IsTaken c n s (plain_inverse i) d
 Steps c n s (Err fault) d = (d ≡ c) × (fault ≢ OutOfMemory → step c n s ≡ Err (fault_of fault))
 
--- the inverse leads node n back
+-- node n is there, and the inverse leads from it back to some node
 abbrev pub LeadsNodeBack : Cluster → ℕ → Inverse → Type 0
 LeadsNodeBack c n i = (later : Node) × (slice_get c n ≡ Some later) × LeadsSomewhere i later
 
--- node n became what the inverse leads it back to
+-- if the inverse leads node n back to some node, the cluster is as before, but with that node as node n
 abbrev pub NodeGoesBack : Cluster → ℕ → Inverse → Cluster → Type 0
 NodeGoesBack c n i d = (later earlier : Node) → slice_get c n ≡ Some later → LeadsBack i later earlier → d ≡ slice_set c n earlier
 
@@ -104,8 +105,8 @@ pub record LeadsClusterBack (d : Cluster) (n : ℕ) (i : Inverse) (c : Cluster) 
   pub leads : LeadsBack i later earlier
   pub gives : c ≡ slice_set d n earlier
 
--- step n, of this node, can be taken back: nothing follows from it, no inverse is lent, and the step's inverse leads back from
--- the node
+-- step n can be taken back at this node: the step has no consequence, no inverse is lent, and the inverse of the step leads back from the
+-- node
 pub record IsBackable (nodes : Cluster) (hs : List Held) (n node : ℕ) : Type 0 where
   pub free : first_consequence (kepts hs) n ≡ None
   pub whole : AreAllHeld hs
@@ -120,11 +121,12 @@ pub record IsBackable (nodes : Cluster) (hs : List Held) (n node : ℕ) : Type 0
 abbrev pub NeedsNoMemory : List Held → ℕ → Type 0
 NeedsNoMemory hs n = (i : Inverse) × (inverse_of (find_held hs n) ≡ Some i) × IsTrue (needs_no_memory i)
 
--- the node became what the inverse of step n leads back to
+-- if step n can be taken back at this node, the cluster is as before, but with the node that the step's inverse leads back to, which keeps
+-- the invariant of a node
 abbrev pub GoesBack : Cluster → List Held → ℕ → ℕ → Cluster → Type 0
 GoesBack nodes hs n node d = (b : IsBackable nodes hs n node) → (d ≡ slice_set nodes node b.earlier) × IsNode b.earlier
 
--- step n doesn't remain, and its undo is refused with this fault
+-- step n doesn't remain, and its undo is refused with this fault, which isn't HistoryFull
 pub record IsGone (s : State) (n : ℕ) (fault : Fault) : Type 0 where
   pub gone : find_number s.remaining n ≡ None
   pub refused : undo_reply s n ≡ Refused fault

@@ -7,7 +7,7 @@ use Rattle.journal_core.specs.Holdings.{Held}
 use Rattle.bench_core.specs.declared.fault.Fault.{Fault}
 use Rattle.bench_core.specs.Clusters.{Cluster, opening_of, message_for, step}
 
--- the inverse kept beside a step leads from its node just after it back to its node just before it
+-- the inverse kept beside a step leads from the step's node, as it is just after the step, back to what the node was just before the step
 pub record Link (c : Cluster) (h : Held) : Type 0 where
   pub inverse : Inverse
   pub kept : h.inverse ≡ Some inverse
@@ -17,7 +17,7 @@ pub record Link (c : Cluster) (h : Held) : Type 0 where
   pub taken : take earlier h.kept.step (message_for c h.kept.step) ≡ Ok later
   pub leads : LeadsBack inverse later earlier
 
--- each inverse leads back, along the run of the steps
+-- along the run of the steps each inverse leads back, up to the first step that faults, if one does
 abbrev pub Chain : Result Cluster Fault → List Held → Type 0
 Chain (Err e) hs = Unit {0}
 Chain (Ok c) [] = Unit {0}

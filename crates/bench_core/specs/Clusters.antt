@@ -56,7 +56,8 @@ abbrev pub of_node : Result Node StepFault → Result Node Fault
 of_node (Ok n) = Ok n
 of_node (Err e) = Err (fault_of e)
 
--- what a node of a cluster of `count` nodes becomes
+-- what a node of a cluster of `count` nodes becomes by a step, or the fault, which is UnknownNode if the node, or one that the step names,
+-- isn't there
 abbrev pub node_step : ℕ → Option Node → Operation → Option Message → Result Node Fault
 node_step count None s m = Err UnknownNode
 node_step count (Some node) s m = if list_all (λ k. nat_lt k count) (named_in s) then of_node (take node s m) else Err UnknownNode

@@ -5,7 +5,7 @@ use Rattle.bench_core.specs.declared.fault.Fault.TheVariants.{OwnReplica, NotKno
 use Rattle.bench_core.specs.declared.fault.Fault.TheVariants.{ClockFull, OwnMessage, NoSuchMessage, NotRequest, IsRequest, OutboxFull, UnknownNode}
 use Rattle.bench_core.specs.declared.fault.Fault.TheVariants.{NoSuchStep, AlreadyUndone, NothingToUndo, HasConsequence, HistoryFull, OutOfMemory}
 
--- the fault's name; for HasConsequence, then the step and what holds it
+-- the fault's name; behind HasConsequence also the number of the step, and that of the step that holds it
 abbrev pub fault_text : Fault → List ℕ
 fault_text OwnReplica = codes "OwnReplica"
 fault_text NotKnown = codes "NotKnown"

@@ -16,7 +16,8 @@ use Rattle.bench_core.specs.Machine.{Config, State, opening_state, calls, call, 
 abbrev pub IsReached : Config → State → Type 0
 IsReached c s = (asked : List (ℕ × Action)) × (s ≡ calls c opening_state asked)
 
--- given by the remaining steps: these run without a fault from empty nodes, their numbers rise, and the history keeps within its bound
+-- a reached state's cluster is given by its remaining steps: these run without a fault from empty nodes, their numbers rise, and they and
+-- the history together keep within the limit on acts
 abbrev pub GivenLaw : Type 0
 GivenLaw = (c : Config) (s : State) → IsReached c s →
     record {
@@ -25,8 +26,8 @@ GivenLaw = (c : Config) (s : State) → IsReached c s →
       fits : length s.history + length s.remaining ≤ c.limits.acts;
     }
 
--- taken back at once: if the next call undoes the step, whoever asks for it, the undo is made, and the remaining steps are those
--- before the step
+-- a step that was taken can be taken back at once: if the next call asks for its undo, whoever asks, the undo is made, and the remaining
+-- steps are those from before the step
 abbrev pub BackLaw : Type 0
 BackLaw =
     (c : Config) (s : State) (actor other k : ℕ) (operation : Operation) → IsReached c s → reply_to c s actor (Do operation) ≡ Taken k →
@@ -35,8 +36,8 @@ BackLaw =
       as_it_was : (call c (call c s actor (Do operation)) other (Undo k)).remaining ≡ s.remaining;
     }
 
--- refused only for a named consequence: an undo of a remaining step is made, and changes its node alone; or it is
--- refused with its least direct consequence, and the remaining steps stay as they were
+-- an undo of a remaining step is refused only for a named consequence: it is made, and changes the step's node alone, to what that was
+-- just before the step; or it is refused with the step's least direct consequence, and the remaining steps stay as they were
 abbrev pub UndoLaw : Type 0
 UndoLaw =
     (c : Config) (s : State) (actor : ℕ) (step : Kept) (cluster : Cluster) → IsReached c s →
@@ -53,13 +54,14 @@ UndoLaw =
       as_it_was : (call c s actor (Undo step.number)).remaining ≡ s.remaining;
     }
 
--- how an undo of the step ends if it is the next call; the bench was `old` before the step and `new` after it
+-- how an undo of step k ends if it is the next call: the step is taken back, or memory was refused and nothing changed; the bench was
+-- `old` before the step, `new` after it, and is `later` after the undo
 pub data UndoneAtOnce (old new : Machine) (k : ℕ) (reply : Reply) (later : Machine) : Type 0 where
   TakenBack : reply ≡ Undone k → later.state.remaining ≡ old.state.remaining → cluster_of later ≡ cluster_of old →
       UndoneAtOnce old new k reply later
   NoMemory : reply ≡ Refused OutOfMemory → later ≡ new → UndoneAtOnce old new k reply later
 
--- the next call can take back a step that was taken, whoever asks for it
+-- if the call took a step, the next call can take the step back, whoever asks for it, unless memory is refused
 abbrev pub CanBeTakenBack : Machine → Reply → Machine → Type 0
 CanBeTakenBack old (Taken k) new =
     (other : ℕ) (reply : Reply) (later : Machine) → AnswersAs new other (Undo k) reply later → UndoneAtOnce old new k reply later
@@ -73,8 +75,8 @@ pub record NodeGoesBack (old : Machine) (k node : ℕ) (new : Machine) : Type 0 
   pub just_before : runs (node_limits old.limits) (length old.names) (steps_before old.state.remaining k) ≡ Ok earlier
   pub becomes : cluster_of new ≡ Ok (with_node_of node earlier cluster)
 
--- how the undo of remaining step k ends: it is made, and its node alone goes back; or its least direct consequence is
--- named, and neither cluster nor remaining steps change; or memory was refused, and nothing changed
+-- how the undo of remaining step k ends: it is made, and the step's node alone goes back; or it is refused with the step's least direct
+-- consequence, and neither cluster nor remaining steps change; or memory was refused, and nothing changed
 pub data UndoEnds (old : Machine) (k : ℕ) (reply : Reply) (new : Machine) : Type 0 where
   Made : first_consequence old.state.remaining k ≡ None → reply ≡ Undone k → new.state.remaining ≡ without old.state.remaining k →
       (step : Kept) → find_number old.state.remaining k ≡ Some step → NodeGoesBack old k step.node new → UndoEnds old k reply new
@@ -82,7 +84,7 @@ pub data UndoEnds (old : Machine) (k : ℕ) (reply : Reply) (new : Machine) : Ty
       new.state.remaining ≡ old.state.remaining → cluster_of new ≡ cluster_of old → UndoEnds old k reply new
   Unmade : reply ≡ Refused OutOfMemory → new ≡ old → UndoEnds old k reply new
 
--- an undo of a remaining step, or of the last step of a node, is refused only for a named consequence
+-- an undo of a remaining step, or of the last step of a node, is refused only for a named consequence, or because memory was refused
 abbrev pub RefusedOnlyForConsequence : Machine → Action → Reply → Machine → Type 0
 RefusedOnlyForConsequence old (Do operation) reply new = Unit {0}
 RefusedOnlyForConsequence old (Undo k) reply new = (step : Kept) → find_number old.state.remaining k ≡ Some step → UndoEnds old k reply new

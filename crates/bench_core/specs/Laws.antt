@@ -30,7 +30,7 @@ LoopLaw = (l : NodeLimits) (count number node : ℕ) (ks : List Kept) (s : Opera
       out : without (added ks number node s) number ≡ ks;
     }
 
--- one node taken through its own steps; each delivery gets its message from the cluster
+-- one node taken through its own steps; each delivery gets its message from this one cluster
 abbrev pub own_run : Cluster → Result Node StepFault → List Kept → Result Node StepFault
 own_run c (Err e) ks = Err e
 own_run c (Ok node) [] = Ok node
@@ -42,11 +42,11 @@ OwnRunLaw = (l : NodeLimits) (count n : ℕ) (first rest : List Kept) (old c : C
     runs l count (first ++ rest) ≡ Ok c → runs l count first ≡ Ok old → slice_get old n ≡ Some node →
     own_run c (Ok (opening_node n l)) (own_steps first n) ≡ Ok node
 
--- the cluster with one node as it is in the other
+-- the cluster with node n as `old` has it, if `old` has it
 abbrev pub with_node_of : ℕ → Cluster → Cluster → Cluster
 with_node_of n old c = unwrap_or (option_map (slice_set c n) (slice_get old n)) c
 
--- a step without consequences can be left out. Only its node changes, to what it was just before
+-- a step without consequences can be left out. Only its node changes, to what it was just before the step
 abbrev pub MiddleLaw : Type 0
 MiddleLaw = (l : NodeLimits) (count n : ℕ) (ks : List Kept) (k : Kept) (c : Cluster) →
     NumbersRise 0 ks → runs l count ks ≡ Ok c → find_number ks n ≡ Some k → first_consequence ks n ≡ None →
@@ -67,13 +67,13 @@ SwapLaw = (l : NodeLimits) (count : ℕ) (ks js : List Kept) → AreEquivalent k
 abbrev pub PlacesLaw : Type 0
 PlacesLaw = (ks js other : List Kept) (places : List ℕ) → all_swapped ks places ≡ Ok js → unnumbered js ≡ unnumbered other → AreEquivalent ks other
 
--- the presence of the entry that a step makes
+-- the presence that a join or an update tracks; other steps have none
 abbrev pub presence_made : Operation → Option Presence
 presence_made (Join presence) = Some presence
 presence_made (Update presence) = Some presence
 presence_made _ = None
 
--- an entry stands in a cluster at this dot: at a node, in its delta, or in a message that it sent
+-- an entry with this dot and presence stands in the cluster: at a node, in a node's delta, or in a message that a node sent
 pub data Stands (c : Cluster) (d : Dot) (p : Presence) : Type 0 where
   AtNode : (n : ℕ) (node : Node) → slice_get c n ≡ Some node → fin.get node.replica.store.entries d ≡ Some p → Stands c d p
   InDelta : (n : ℕ) (node : Node) → slice_get c n ≡ Some node → fin.get node.replica.delta.entries d ≡ Some p → Stands c d p

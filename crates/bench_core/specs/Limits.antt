@@ -8,7 +8,7 @@ use Rattle.replica_core.specs.Limits.{most_entries, most_messages}
 abbrev pub most_acts : ℕ
 most_acts = 1000000
 
--- events and remaining steps together; and for one node its entries, its own clock and its messages
+-- the limits: on events and remaining steps together; and for each node on its entries, its own clock and its messages
 pub record Limits : Type 0 where
   pub acts : ℕ
   pub entries : ℕ

@@ -103,7 +103,7 @@ remaining_after ks actor act (Taken n) = with_step ks n actor act
 remaining_after ks actor act (Undone k) = without ks k
 remaining_after ks actor act (Refused r) = ks
 
--- whether the reply is recorded: a refusal is while a place is free, but HistoryFull never is
+-- whether the reply is recorded: a refusal is recorded only while a place is free, and HistoryFull never; every other reply is
 abbrev pub is_recorded : Config → State → Reply → Bool
 is_recorded c s (Refused HistoryFull) = false
 is_recorded c s (Refused r) = not (free_places c s == 0)

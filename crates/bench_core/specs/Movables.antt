@@ -5,7 +5,7 @@ use Rattle.node_core.specs.Operations.{delivers, sends}
 use Rattle.journal_core.specs.Journals.{Kept, sent_by}
 use Rattle.bench_core.specs.declared.movable.Movable.{Movable}
 
--- the sender and the number of the message that the step sends after these, if it sends one
+-- the sender and the number of the message that the step sends, if it sends one, when it comes after these
 abbrev pub sent_after : List Kept → Kept → Option (ℕ × ℕ)
 sent_after first k = if sends k.step then Some (k.node, length (sent_by first k.node) + 1) else None
 
@@ -18,7 +18,7 @@ abbrev pub movables_after : List Kept → List Kept → List Movable
 movables_after first [] = []
 movables_after first (k ∷ ks) = movable_after first k ∷ movables_after (first ++ k ∷ []) ks
 
--- whether this message is delivered
+-- whether there are both a sent and a delivered message, and they are the same
 abbrev pub is_message : Option (ℕ × ℕ) → Option (ℕ × ℕ) → Bool
 is_message None delivered = false
 is_message (Some sent) None = false
@@ -45,7 +45,7 @@ pub record IsSameAt (ks : List Kept) (place : ℕ) (js : List Kept) (second : �
   pub node : one.node ≡ other.node
   pub step : one.step ≡ other.step
 
--- these steps of one journal are those of the other in order, whatever their numbers
+-- the steps of one journal at the places of these notes, in the order of the notes, are those of the other, whatever their numbers
 pub record AreStepsOf (ks : List Kept) (ms : List Movable) (js : List Kept) : Type 0 where
   pub count : length ms ≡ length js
   pub each : (i : ℕ) (m : Movable) → slice_get ms i ≡ Some m → IsSameAt ks m.place js i

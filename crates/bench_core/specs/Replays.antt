@@ -15,8 +15,7 @@ abbrev pub Replays : Config → State → List Event → State → Type 0
 Replays c old [] new = new ≡ old
 Replays c old (e ∷ es) new = Records c old e × Replays c (after c old e.actor e.act e.reply) es new
 
--- if its recorded calls are asked again from the opening on, a reached state comes back: calls that weren't recorded changed
--- nothing
+-- a reached state comes back if its recorded calls are asked again from the opening on: calls that weren't recorded changed nothing
 abbrev pub ReplayLaw : Type 0
 ReplayLaw = (c : Config) (s : State) → IsReached c s → Replays c opening_state s.history s
 

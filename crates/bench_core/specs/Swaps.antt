@@ -22,18 +22,19 @@ pub data AreEquivalent : List Kept → List Kept → Type 0 where
   Swap : (first rest js : List Kept) (a b : Kept) → are_independent (first ++ a ∷ b ∷ rest) a b ≡ true →
       AreEquivalent (first ++ b ∷ a ∷ rest) js → AreEquivalent (first ++ a ∷ b ∷ rest) js
 
--- the list with place i, from 0, and the next exchanged, where these stand there and may be exchanged
+-- the list with the values at place i, from 0, and at the next exchanged; none if one of these isn't there, or they may not be exchanged
 abbrev pub exchange : {X : Type 0} → (X → X → Bool) → List X → ℕ → Option X → Option X → Option (List X)
 exchange may xs i None next = None
 exchange may xs i (Some x) None = None
 exchange may xs i (Some x) (Some y) = if may x y then Some (slice_set (slice_set xs i y) (suc i) x) else None
 
--- the list with this place, from 1, and the next exchanged, if it has them and they may be exchanged
+-- the list with the values at this place, from 1, and at the next exchanged; none if one of these isn't there, or they may not be
+-- exchanged
 abbrev pub exchanged : {X : Type 0} → (X → X → Bool) → List X → ℕ → Option (List X)
 exchanged may xs zero = None
 exchanged may xs (suc i) = exchange may xs i (slice_get xs i) (slice_get xs (suc i))
 
--- the journal after a swap of this place and the next
+-- the journal after a swap of the steps at this place, from 1, and the next; none if one of these isn't there, or they aren't independent
 abbrev pub swapped : List Kept → ℕ → Option (List Kept)
 swapped ks place = exchanged (are_independent ks) ks place
 
@@ -47,7 +48,8 @@ abbrev pub after_swaps : {X : Type 0} → (X → ℕ → Option X) → ℕ → X
 after_swaps swap at x [] = Ok x
 after_swaps swap at x (place ∷ places) = unless_bad at (swap x place) >>= λ next. after_swaps swap (at + 1) next places
 
--- the journal after these swaps, or the first bad one: its steps aren't independent
+-- the journal after these swaps, or the number, from 1, of the first bad one: one of its two places isn't there, or its steps aren't
+-- independent
 abbrev pub all_swapped : List Kept → List ℕ → Result (List Kept) SwapFault
 all_swapped ks places = after_swaps swapped 1 ks places
 
@@ -61,10 +63,10 @@ pub data SwapsEnd {Y : Type 0} (one other : Machine) (places : List ℕ) (result
   -- the names or the limits differ
   IsOther : (AreOfOneKind one other → ⊥) → result ≡ Err OtherBench → SwapsEnd one other places result
   Unmade : AreOfOneKind one other → result ≡ Err OutOfMemory → SwapsEnd one other places result
-  -- swap `at`, counted from 1, is the first bad one: its steps aren't independent
+  -- swap `at`, counted from 1, is the first bad one: one of its two places isn't there, or its steps aren't independent
   IsBad : (at : ℕ) → AreOfOneKind one other → all_swapped one.state.remaining places ≡ Err (BadSwap at) → result ≡ Err (BadSwap at) →
       SwapsEnd one other places result
-  -- the swaps lead to other steps
+  -- the swaps lead to steps that aren't the other bench's
   LeadsAway : (ks : List Kept) → AreOfOneKind one other → all_swapped one.state.remaining places ≡ Ok ks →
       unnumbered ks ≢ unnumbered other.state.remaining → result ≡ Err OtherSteps → SwapsEnd one other places result
   -- the swaps lead to the other bench's steps

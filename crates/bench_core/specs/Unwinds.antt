@@ -18,8 +18,8 @@ pub record Explains (s : State) (n : ℕ) (numbers : List ℕ) : Type 0 where
   pub remains : (k : Kept) × (find_number s.remaining n ≡ Some k)
   pub future : IsFuture s.remaining n numbers
 
--- why these numbers are not given: the step doesn't remain, and its undo is refused with this fault; or memory for them was
--- refused
+-- why the future of step n isn't given: the step doesn't remain, and its undo is refused with this fault; or the step remains, and memory
+-- was refused
 pub data Unexplained (s : State) (n : ℕ) : Fault → Type 0 where
   Gone : (fault : Fault) → find_number s.remaining n ≡ None → undo_reply s n ≡ Refused fault → Unexplained s n fault
   Unmade : (k : Kept) → find_number s.remaining n ≡ Some k → Unexplained s n OutOfMemory
@@ -37,8 +37,8 @@ UndoneInTurnLaw =
     (c : Config) (s : State) (actor n : ℕ) (numbers : List ℕ) → IsReached c s → IsFuture s.remaining n numbers →
     replies_of c s (undos actor numbers) ≡ map Undone numbers
 
--- if the machine makes all these undos and steps back, by whatever actors, and they take a step back, they take back all that
--- follows from it
+-- if the reply to each of some calls, whoever asks, is that a step was undone, and step n is gone after them, then all that follows from
+-- step n is gone too
 abbrev pub LeastLaw : Type 0
 LeastLaw =
     (c : Config) (s : State) (n : ℕ) (asked : List (ℕ × Action)) (undone : List ℕ) → IsReached c s →
@@ -79,8 +79,8 @@ undone_by (unwound.Done numbers) = numbers.items
 undone_by (unwound.Refused fault) = []
 undone_by (unwound.Partial numbers) = numbers.items
 
--- the whole future of step n was undone; or the step has none, or memory for it was refused; or only the first undos of that
--- future were made
+-- the whole future of step n was undone; or none of it, as the step doesn't remain, or memory was refused; or only a first part of that
+-- future, and not all
 abbrev pub IsUnwound : {X : Type 0} → State → ℕ → Unwound X → Type 0
 IsUnwound s n (unwound.Done numbers) = Explains s n numbers.items
 IsUnwound s n (unwound.Refused fault) = Unexplained s n fault

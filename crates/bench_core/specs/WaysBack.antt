@@ -8,7 +8,8 @@ use Rattle.bench_core.specs.Clusters.{Cluster}
 use Rattle.bench_core.specs.Runs.{runs}
 use Rattle.bench_core.specs.Machine.{Machine, cluster_of}
 
--- the inverse leads from this node, as the remaining steps give it, back to the node that they give without step n
+-- the inverse leads from this node, as the remaining steps give it, back to what they give without step n; all other nodes are the same
+-- with and without it
 pub record LeadsOut (m : Machine) (n node : ℕ) (inverse : Inverse) : Type 0 where
   pub cluster : Cluster
   pub is_now : cluster_of m ≡ Ok cluster
@@ -18,7 +19,7 @@ pub record LeadsOut (m : Machine) (n node : ℕ) (inverse : Inverse) : Type 0 wh
   pub leads : LeadsBack inverse later earlier
   pub left_out : runs (node_limits m.limits) (length m.names) (without m.state.remaining n) ≡ Ok (slice_set cluster node earlier)
 
--- while nothing follows from remaining step n, the inverse leads back along its undo
+-- if step n remains and has no consequence, the inverse leads the step's node back to what the other remaining steps make of it
 abbrev pub IsWayBack : Machine → ℕ → Inverse → Type 0
 IsWayBack m n inverse =
     (step : Kept) → find_number m.state.remaining n ≡ Some step → first_consequence m.state.remaining n ≡ None → LeadsOut m n step.node inverse

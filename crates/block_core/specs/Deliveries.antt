@@ -16,7 +16,7 @@ is_new named seen d = named d.name && not (set.contains seen d)
 abbrev pub is_gone : (ℕ → Bool) → Dots → Entries → Dot → Bool
 is_gone named seen there d = named d.name && (set.contains seen d && not (is_some (fin.get there d)))
 
--- in the blocks from one place up to another, no entry's dot passes the test
+-- in the blocks at the places from i on and below j, no entry's dot passes the test
 abbrev pub HasNone : (Dot → Bool) → List Block → ℕ → ℕ → Type 0
 HasNone test bs i j = (k : ℕ) (b : Block) → i ≤ k → k < j → slice_get bs k ≡ Some b → filter (λ p. test p.0) (fin.entries b.map) ≡ []
 
@@ -24,10 +24,10 @@ HasNone test bs i j = (k : ℕ) (b : Block) → i ≤ k → k < j → slice_get 
 abbrev pub IsAlike : List Block → Block → Type 0
 IsAlike there b = (d : Dot) → IsIn b.name b.base d → is_some (fin.get b.map d) ≡ is_some (fin.get (set_map there) d)
 
--- the blocks from one place up to another are alike with those there
+-- each block at a place from i on and below j has entries at exactly those of its dots at which the blocks of `there` have entries
 abbrev pub AreAlike : List Block → List Block → ℕ → ℕ → Type 0
 AreAlike there bs i j = (k : ℕ) (b : Block) → i ≤ k → k < j → slice_get bs k ≡ Some b → IsAlike there b
 
--- the blocks from one place up to another stand before this one
+-- the blocks at the places from i on and below j are below the block with this key
 abbrev pub AreBefore : Dot → List Block → ℕ → ℕ → Type 0
 AreBefore key bs i j = (k : ℕ) (b : Block) → i ≤ k → k < j → slice_get bs k ≡ Some b → is_before key b ≡ true

@@ -1,9 +1,9 @@
--- What a contract sees of a set of entries: the map of its presences, and how many more have memory.
+-- What a contract sees of a set of entries: the map of its presences, and for how many more entries there is room.
 use Rattle.std.specs.Prelude.{ℕ, refl}
 use Rattle.std.specs.Coded.{Coded, code_by, coded×, coded_ℕ}
 use Rattle.entry_core.specs.Presences.{Entries, entries_code}
 
--- neither `same` nor a copy looks at the room
+-- sets with the same map may differ in their room
 pub record EntrySet : Type 0 where
   pub map : Entries
   pub room : ℕ

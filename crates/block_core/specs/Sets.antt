@@ -9,15 +9,15 @@ use Rattle.dots_core.specs.Dots.{dot, dot_cmp}
 use Rattle.entry_core.specs.Presences.{Entries, Entry, Presence, entry_of}
 use Rattle.block_core.specs.Blocks.{Block, IsIn}
 
--- what blocks rise by
+-- the key of a block, by which blocks rise: its name and its base, as a dot
 abbrev pub key : Block → Dot
 key b = dot b.name b.base
 
--- the block that a dot is of
+-- the key of the block that the dot is of
 abbrev pub block_key : Dot → Dot
 block_key d = dot d.name (d.clock / 64)
 
--- whether the block is below this one
+-- whether the block is below the one with this key
 abbrev pub is_before : Dot → Block → Bool
 is_before k b = is_lt (dot_cmp (key b) k)
 
@@ -26,7 +26,7 @@ abbrev pub RisingBlocks : List Block → Type 0
 RisingBlocks [] = Unit {0}
 RisingBlocks (b ∷ bs) = AllByRecursion (λ c. dot_cmp (key b) (key c) ≡ Less) bs × RisingBlocks bs
 
--- the dots are of the block
+-- the dots of the block's entries are of the block
 abbrev pub IsWithin : Block → Type 0
 IsWithin b = AllByRecursion (λ p. IsIn b.name b.base p.0) (fin.entries b.map)
 
@@ -34,7 +34,7 @@ IsWithin b = AllByRecursion (λ p. IsIn b.name b.base p.0) (fin.entries b.map)
 abbrev pub IsFilled : Block → Type 0
 IsFilled b = 0 < fin.len b.map
 
--- the entries, side by side
+-- the entries of these blocks as pairs of a dot and its presence, side by side
 abbrev pub joined : List Block → List (Dot × Presence)
 joined [] = []
 joined (b ∷ bs) = fin.entries b.map ++ joined bs
@@ -52,13 +52,13 @@ pub record AreBlocks (bs : List Block) : Type 0 where
   pub within : AllByRecursion IsWithin bs
   pub filled : AllByRecursion IsFilled bs
 
--- where a block stands
+-- at place i stands the block with this key
 pub record IsBlockAt (k : Dot) (bs : List Block) (i : ℕ) : Type 0 where
   pub block : Block
   pub at : slice_get bs i ≡ Some block
   pub is : key block ≡ k
 
--- where a block would stand
+-- place i is where a block with this key, which isn't there, would stand: the blocks before it are below, the others above
 pub record IsGap (k : Dot) (bs : List Block) (i : ℕ) : Type 0 where
   pub inside : i ≤ length bs
   pub before : AllByRecursion (λ b. dot_cmp (key b) k ≡ Less) (take i bs)

@@ -1,5 +1,5 @@
--- The rows that the last call of a replica took from its online list, and those that it gave to it, by what the call moved;
--- in any order.
+-- The rows that the last call of a replica took from its online list, and those that the call gave to the list, told by what the call
+-- moved; in any order.
 use Rattle.std.specs.Prelude.{ℕ, ◌==◌, Bool, List, [], ◌∷◌, ◌++◌, map, filter, Option, None, Some}
 use Rattle.std.specs.FinMap as fin
 use Rattle.dots_core.specs.declared.dot.Dot.{Dot}
@@ -34,10 +34,12 @@ abbrev pub rows_or : Option ℕ → Replica → List Row → List Row
 rows_or None r rows = rows
 rows_or (Some name) r rows = rows_of_name name r
 
--- the rows that a call which left this replica took from its list: those of a name that it put down, or of the entries that left
+-- the rows that a call took from the online list: those of the name that it put down; or if it put none down, those that are shown of the
+-- entries that left. The replica is the one after the call
 abbrev pub taken_rows : Change → Replica → List Row
 taken_rows change r = rows_or (hidden_by change) r (rows_shown r (pairs (left_by change)))
 
--- the rows that a call which left this replica gave to its list: those of a name that it put up, or of the entries that joined
+-- the rows that a call gave to the online list: those of the name that it put up; or if it put none up, those that are shown of the
+-- entries that joined. The replica is the one after the call
 abbrev pub given_rows : Change → Replica → List Row
 given_rows change r = rows_or (shown_by change) r (rows_shown r (found_each (joined_by change r) r.store.entries))

@@ -9,13 +9,13 @@ use Rattle.diff_core.specs.declared.few_rows.FewRows.{FewRows}
 use Rattle.diff_core.specs.declared.few_rows.FewRows.TheVariants.{Nothing, One, More}
 use Rattle.diff_core.specs.Rows.{Row}
 
--- these are the rows, unless they may be more than one
+-- the list has no row, or this one row alone; of `More` nothing is said
 abbrev pub AreRows : {X : Type 0} → FewRows X → List Row → Type 0
 AreRows Nothing rows = rows ≡ []
 AreRows (One row) rows = rows ≡ row ∷ []
 AreRows More rows = Unit {0}
 
--- they may be more than one
+-- there may be more rows than one
 abbrev pub IsMore : {X : Type 0} → FewRows X → Type 0
 IsMore Nothing = ⊥
 IsMore (One row) = ⊥

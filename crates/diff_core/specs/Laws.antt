@@ -12,12 +12,12 @@ use Rattle.diff_core.specs.ChangedRows.{given_rows, taken_rows}
 abbrev pub OneListLaw : Type 0
 OneListLaw = (r s : Replica) (xs ys : List Row) → r.store.entries ≡ s.store.entries → r.view ≡ s.view → IsOnlineList r xs → IsOnlineList s ys → xs ≡ ys
 
--- a list has no row that it doesn't have itself; and the rows that one list has alone are in order, as the list is
+-- no row of a list is missing in the list itself; and if a list is in order, so are its rows that are not in another
 pub record DiffLaw : Type 0 where
   pub itself : (rows : List Row) → alone rows rows ≡ []
   pub in_order : (rows others : List Row) → AreInOrder rows → AreInOrder (alone rows others)
 
--- a replica has one online list
+-- a replica has one online list, which `online_of` gives
 abbrev pub OnlineLaw : Type 0
 OnlineLaw = (r : Replica) (rows : List Row) → IsOnlineList r rows ↔ (rows ≡ online_of r)
 

@@ -8,11 +8,11 @@ use Rattle.diff_core.specs.Diffs.{not_below, begins_with}
 abbrev pub times : Row → List Row → ℕ
 times row rows = count_by (eq_by_cmp row_cmp row) rows
 
--- from the first list to the second these rows left and those joined, each as often as it did
+-- each row stands as often in the first list and among those that joined, together, as in the second and among those that left
 abbrev pub ComesTo : List Row → List Row → List Row → List Row → Type 0
 ComesTo before after left joined = (row : Row) → times row before + times row joined ≡ times row after + times row left
 
--- the rows of a list that are left once each of the others has taken out one equal to it; for lists that do not fall
+-- the rows of a list that are left once each row of the other has taken out one equal to it; for two lists that do not fall
 abbrev pub beyond : List Row → List Row → List Row
 beyond [] others = []
 beyond (row ∷ rows) others =

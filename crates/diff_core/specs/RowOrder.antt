@@ -1,4 +1,4 @@
--- The order of rows is total, and rows that tie are one.
+-- The order of rows is total, and rows count as equal if they tie in it.
 use Rattle.std.specs.Prelude.{◌≡◌, refl}
 use Rattle.std.specs.Ordering.{eq_by_cmp, as_partial_cmp}
 use Rattle.std.specs.Cmp.{IsTotalOrder, IsEquivalence, IsPartialOrder, nat_cmp_total, eq_by_cmp_equiv, partial_order_from_total, on_total, then_total}

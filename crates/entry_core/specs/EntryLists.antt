@@ -1,4 +1,4 @@
--- A list of entries that rises by dot, as the map of its presences: how an entry set is kept.
+-- A list of entries that rises by dot, as the map of its presences.
 use Rattle.std.specs.Prelude.{◌≡◌, true, ◌<◌, ◌≤◌, Some, length, slice_get, ℕ, suc, T, List, [], ◌∷◌, map, Result, Ok, Err}
 use Rattle.std.specs.FinMap as fin
 use Rattle.std.specs.Ordering.{is_lt}
@@ -38,10 +38,10 @@ abbrev pub spot : Dot → List Entry → Result ℕ ℕ
 spot d [] = Err 0
 spot d (e ∷ es) = by_order (dot_cmp d e.dot) (Err 0) (Ok 0) (one_later (spot d es))
 
--- the entry before the place is below the dot
+-- the entry before the place, if there is one, is below the dot
 abbrev pub IsBehind : Dot → List Entry → ℕ → Type 0
 IsBehind d es i = (j : ℕ) (e : Entry) → suc j ≡ i → slice_get es j ≡ Some e → is_lt (dot_cmp e.dot d) ≡ true
 
--- the entry at the place is above the dot
+-- the entry at the place, if there is one, is above the dot
 abbrev pub IsBefore : Dot → List Entry → ℕ → Type 0
 IsBefore d es i = (e : Entry) → slice_get es i ≡ Some e → is_lt (dot_cmp d e.dot) ≡ true

@@ -1,4 +1,4 @@
--- Where a list of entries stands. No public clause cites this module.
+-- Entries that one list has alone, or that several may share. No contract of a public function cites this module.
 use Rattle.std.specs.Prelude.{List}
 use Rattle.std.specs.Arc.{arc_value}
 use Rattle.entry_core.specs.Presences.{Entry}
@@ -11,7 +11,7 @@ module _ {Z : Type 0} where
   items_of (Own b) = b.value.items
   items_of (Shared a) = (arc_value a).items
 
-  -- entries that others may have are short
+  -- entries that several lists may share are short
   abbrev pub IsKept : Items Z → Type 0
   IsKept (Own b) = Unit {0}
   IsKept (Shared a) = AreShort (arc_value a).items

@@ -45,7 +45,7 @@ entries_code = fin.code dot_code presence_code
 abbrev pub entries_of_names : (ℕ → Bool) → Entries → Entries
 entries_of_names named es = fin.retain_keys es (λ d. named d.name)
 
--- these entries put into a map
+-- the map after these entries are put in, the last one first
 abbrev pub put_all : List (Dot × Presence) → Entries → Entries
 put_all [] es = es
 put_all (e ∷ rest) es = fin.insert (put_all rest es) e.0 e.1
@@ -58,6 +58,6 @@ over arriving es = put_all (fin.entries arriving) es
 abbrev pub is_tracked_as : ℕ → List ℕ → List ℕ → Presence → Bool
 is_tracked_as pid topic key p = (p.pid == pid) && (bytes_eq p.topic topic && bytes_eq p.key key)
 
--- the dots of a name whose presence passes the test, by rising clock
+-- the dots of the name at which the map has a presence that passes the test, by rising clock
 abbrev pub dots_of : ℕ → (Presence → Bool) → Entries → List Dot
 dots_of name test es = map (λ e. e.0) (filter (λ e. (e.0.name == name) && test e.1) (fin.entries es))

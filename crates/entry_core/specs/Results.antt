@@ -1,7 +1,7 @@
 -- What a call gives, compared with what it is to give: a value, or the first fault.
 use Rattle.std.specs.Prelude.{◌≡◌, ◌≢◌, Result, Ok, Err}
 
--- the next step of a definition in `do`, if the step before gave a value
+-- the next step of a definition in `do`, if the step before gave a value; else the fault of that step
 infixl 10 ◌>>=◌
 abbrev pub ◌>>=◌ : {A B E : Type 0} → Result A E → (A → Result B E) → Result B E
 (Ok x) >>= f = f x

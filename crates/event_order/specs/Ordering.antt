@@ -34,11 +34,11 @@ pub record CanCome (events : List Logged) (came : List ℕ) (place : ℕ) : Type
   pub turn : (earlier : ℕ) → earlier < place → node_at events earlier ≡ node_at events place → Contains came earlier
   pub sent : (message : ℕ) → waits_at events place ≡ Some message → WasSent events came message
 
--- the events can come in this order: each of them after those before it
+-- the events of the list can come in its order: each of them after those before it in the list
 pub record IsBegun (events : List Logged) (order : List ℕ) : Type 0 where
   pub each : (k : ℕ) → k < length order → CanCome events (take k order) (slice_index order k)
 
--- the events can come in this order, and these are all events
+-- the events of the list can come in its order, and they are all events
 pub record IsOrder (events : List Logged) (order : List ℕ) : Type 0 where
   pub begun : IsBegun events order
   pub all : (place : ℕ) → place < length events → Contains order place
@@ -82,14 +82,15 @@ pub record IsStuckAt (events : List Logged) (place : ℕ) : Type 0 where
   pub never : (order : List ℕ) → IsBegun events order → Contains order place → ⊥
   pub first : (earlier : ℕ) → earlier < place → (order : List ℕ) × IsBegun events order × Contains order earlier
 
--- why there is no order: the first of three reasons, at the first event that has it
+-- why no order is given: the first event that sends a message again; if there is none, the first that waits for a message which is never
+-- sent; if there is neither, the first that waits forever; or memory was refused, which says nothing of the events
 abbrev pub IsFaultOf : List Logged → OrderFault → Type 0
 IsFaultOf events (Twice at) = IsTwiceAt events at
 IsFaultOf events (NeverSent at) = NoTwice events × IsNeverSentAt events at
 IsFaultOf events (Circle at) = NoTwice events × AllSent events × IsStuckAt events at
 IsFaultOf events OutOfMemory = Unit {0}
 
--- what `ordered` gives: the nearest order of events, each of whose messages is sent once
+-- what `ordered` gives: the nearest order of the events, none of whose messages is sent twice
 pub record IsOrdered (events : List Logged) (order : List ℕ) : Type 0 where
   pub is : IsOrder events order
   pub nearest : IsNearest events order
@@ -99,7 +100,7 @@ pub record IsOrdered (events : List Logged) (order : List ℕ) : Type 0 where
 abbrev pub HasNodes : ℕ → List Logged → Type 0
 HasNodes nodes events = (place : ℕ) → place < length events → node_at events place < nodes
 
--- each message that is sent or waited for is one of `messages`, counted from 0
+-- each message that is sent or waited for is one of `messages` messages, counted from 0
 pub record HasMessages (messages : ℕ) (events : List Logged) : Type 0 where
   pub waits : (place message : ℕ) → waits_at events place ≡ Some message → message < messages
   pub sends : (place message : ℕ) → sends_at events place ≡ Some message → message < messages

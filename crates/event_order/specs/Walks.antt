@@ -13,23 +13,23 @@ pub record IsFirstOf (events : List Logged) (node : ℕ) (from place : ℕ) : Ty
   pub before : (q : ℕ) → from ≤ q → q < place → node_at events q ≡ node → ⊥
   pub here : place < length events → node_at events place ≡ node
 
--- the first event of the node that hasn't come: those of the node before it came, and none from it on
+-- the first event of the node that hasn't come, or the number of all events if each has; no event of the node from `head` on came
 pub record IsHead (events : List Logged) (came : List ℕ) (node head : ℕ) : Type 0 where
   pub within : head ≤ length events
   pub low : (q : ℕ) → q < head → node_at events q ≡ node → Contains came q
   pub here : head < length events → node_at events head ≡ node
   pub high : (q : ℕ) → head ≤ q → q < length events → node_at events q ≡ node → Contains came q → ⊥
 
--- each of these is the head of its node
+-- each of these is the head of the node whose number is its place in the list
 abbrev pub AreHeads : List Logged → List ℕ → List ℕ → Type 0
 AreHeads events came heads = (node : ℕ) → node < length heads → IsHead events came node (slice_index heads node)
 
--- whether a message was sent, if there is one
+-- whether there is no message, or the message was sent
 abbrev pub is_sent : Option ℕ → List Bool → Bool
 is_sent None sent = true
 is_sent (Some message) sent = slice_index_or sent message false
 
--- the messages that were sent by the events that came
+-- `sent` has true for the messages that were sent by the events that came, and for no others
 pub record AreSent (events : List Logged) (came : List ℕ) (sent : List Bool) : Type 0 where
   pub sound : (message : ℕ) → slice_index_or sent message false ≡ true → WasSent events came message
   pub all : (message : ℕ) → WasSent events came message → slice_index_or sent message false ≡ true
@@ -38,7 +38,7 @@ pub record IsWalk (events : List Logged) (came heads : List ℕ) (sent : List Bo
   pub next : AreHeads events came heads
   pub messages : AreSent events came sent
 
--- the first of these events that waits for nothing or for a sent message, or the number of all events
+-- the first event among the heads that waits for nothing or for a message that was sent; or the number of all events, if there is none
 pub record IsLeastReady (events : List Logged) (heads : List ℕ) (sent : List Bool) (place : ℕ) : Type 0 where
   pub within : place ≤ length events
   pub among : place < length events → (j : ℕ) × (j < length heads) × (slice_index heads j ≡ place)
@@ -55,7 +55,7 @@ pub record IsLeast (limit : ℕ) (numbers : List ℕ) (least : ℕ) : Type 0 whe
   pub among : least < limit → (j : ℕ) × (j < length numbers) × (slice_index numbers j ≡ least)
   pub first : (j : ℕ) → j < length numbers → slice_index numbers j < limit → least ≤ slice_index numbers j
 
--- the messages that the events below a place send
+-- `sent` has true for the messages that the events below a place send, and for no others
 pub record IsSentUpTo (events : List Logged) (end : ℕ) (sent : List Bool) : Type 0 where
   pub sound : (message : ℕ) → slice_index_or sent message false ≡ true → (place : ℕ) × (place < end) × (sends_at events place ≡ Some message)
   pub all : (place message : ℕ) → place < end → sends_at events place ≡ Some message → slice_index_or sent message false ≡ true
@@ -64,21 +64,21 @@ pub record IsSentUpTo (events : List Logged) (end : ℕ) (sent : List Bool) : Ty
 abbrev pub NoTwiceUpTo : List Logged → ℕ → Type 0
 NoTwiceUpTo events end = (place : ℕ) → place < end → SendsAgain events place → ⊥
 
--- the nearest beginning of an order, after which no event can come
+-- the events that came were at each point the first that could, and no event can come after them; the heads are those after them
 pub record IsStopped (events : List Logged) (came heads : List ℕ) : Type 0 where
   pub begun : IsBegun events came
   pub nearest : IsNearest events came
   pub next : AreHeads events came heads
   pub none : (place : ℕ) → CanCome events came place → ⊥
 
--- of the reasons why there is no order, the two about messages
+-- of the reasons why no order is given, the two about messages; or memory was refused
 abbrev pub IsMessageFault : List Logged → OrderFault → Type 0
 IsMessageFault events (Twice at) = IsTwiceAt events at
 IsMessageFault events (NeverSent at) = NoTwice events × IsNeverSentAt events at
 IsMessageFault events (Circle at) = ⊥
 IsMessageFault events OutOfMemory = Unit {0}
 
--- of the reasons why there is no order, the one about an event that waits forever
+-- of the reasons why no order is given, the one about an event that waits forever; or memory was refused
 abbrev pub IsWaitFault : List Logged → OrderFault → Type 0
 IsWaitFault events (Twice at) = ⊥
 IsWaitFault events (NeverSent at) = ⊥

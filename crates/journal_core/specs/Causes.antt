@@ -31,7 +31,7 @@ AllRise vs = AllByRecursion (λ (v : SmallVec ℕ). Rises v.items) vs
 abbrev pub no_deliveries : SmallVec ℕ
 no_deliveries = record { items = []; capacity = 0 }
 
--- the deliveries of the message at a place
+-- the deliveries of the message at a place, from 0; none if there is no such place
 abbrev pub deliveries_at : List (SmallVec ℕ) → ℕ → SmallVec ℕ
 deliveries_at vs p = slice_index_or vs p no_deliveries
 
@@ -61,8 +61,8 @@ is_message n q (Some m) = (m.0 == n) && (m.1 == q)
 abbrev pub delivering : List Kept → ℕ → ℕ → List Kept
 delivering ks n q = filter (λ k. is_message n q (delivers k.step)) ks
 
--- c is the index of node n: of these steps, and of the deliveries among the others. The two lists are the same while no step is
--- being kept or taken out
+-- c is the index of node n: of its steps in ks, and of the deliveries of its messages in js. ks and js are the same while no step is being
+-- kept or taken out
 pub record IsIndexOf (ks js : List Kept) (n : ℕ) (c : Causes) : Type 0 where
   pub own : c.own ≡ numbers (own_steps ks n)
   pub sent : c.sent ≡ numbers (sent_by ks n)
@@ -72,7 +72,7 @@ pub record IsIndexOf (ks js : List Kept) (n : ℕ) (c : Causes) : Type 0 where
 abbrev pub no_causes : Causes
 no_causes = record { own = []; sent = []; deliveries = []; room = 0 }
 
--- the index of node n
+-- the index of node n; an empty one if node n has none
 abbrev pub causes_at : List Causes → ℕ → Causes
 causes_at cs n = slice_index_or cs n no_causes
 
@@ -83,17 +83,17 @@ AreIndexed ks js cs = (n : ℕ) → n < length cs → IsIndexOf ks js n (causes_
 abbrev pub AreKnown : ℕ → List Kept → Type 0
 AreKnown n ks = AllByRecursion (λ (k : Kept). k.node < n) ks
 
--- the steps are in causal order, each is of a node, and these are the nodes' indices
+-- the steps are in causal order, each is of a node that has an index, and each index is that of its node
 abbrev pub IsIndexed : List Kept → List Causes → Type 0
 IsIndexed ks cs = AreInCausalOrder ks × AreKnown (length cs) ks × AreIndexed ks ks cs
 
 -- edits of an index
 
--- the two lists of deliveries are the same, except at one place
+-- the two lists of deliveries are equally long, and the same at all places other than p
 abbrev pub SameBut : ℕ → List (SmallVec ℕ) → List (SmallVec ℕ) → Type 0
 SameBut p vs ws = (length ws ≡ length vs) × ((q : ℕ) → (q ≡ p → ⊥) → deliveries_at ws q ≡ deliveries_at vs q)
 
--- the index has one more message, which nothing delivers
+-- the index has one more message at its end, which nothing delivers
 abbrev pub AddsMessage : List (SmallVec ℕ) → List (SmallVec ℕ) → Type 0
 AddsMessage vs ws = (v : SmallVec ℕ) × (ws ≡ vs ++ v ∷ []) × (v.items ≡ [])
 
@@ -106,7 +106,7 @@ IsSameIndex b c =
 abbrev pub AreSameIndices : List Causes → List Causes → Type 0
 AreSameIndices cs ds = (length ds ≡ length cs) × ((n : ℕ) → IsSameIndex (causes_at cs n) (causes_at ds n))
 
--- the indices of the other nodes stay
+-- the indices of all nodes other than this one stay as they are
 abbrev pub OthersStay : ℕ → List Causes → List Causes → Type 0
 OthersStay node cs ds = (length ds ≡ length cs) × ((n : ℕ) → (n ≡ node → ⊥) → causes_at ds n ≡ causes_at cs n)
 
@@ -115,7 +115,7 @@ abbrev pub AddsStep : Bool → ℕ → Causes → Causes → Type 0
 AddsStep true n b c = (c.own ≡ and_last n b.own) × (c.sent ≡ and_last n b.sent) × AddsMessage b.deliveries c.deliveries
 AddsStep false n b c = (c.own ≡ and_last n b.own) × (c.sent ≡ b.sent) × (c.deliveries ≡ b.deliveries)
 
--- the last step, which sent or didn't, is gone
+-- the last step is taken out; the flag says whether it sent a message
 abbrev pub DropsStep : Bool → Causes → Causes → Type 0
 DropsStep true b c =
     (c.own ≡ take (length b.own - 1) b.own) × (c.sent ≡ take (length b.sent - 1) b.sent)
@@ -141,7 +141,7 @@ EditsDeliveries edit (Some m) cs ds =
     × SameBut (m.1 - 1) (causes_at cs m.0).deliveries (causes_at ds m.0).deliveries
     × ((deliveries_at (causes_at ds m.0).deliveries (m.1 - 1)).items ≡ edit (deliveries_at (causes_at cs m.0).deliveries (m.1 - 1)).items)
 
--- the deliveries of this message, if one is named, rise with n at their end
+-- the deliveries of this message, if one is named, still rise with n put at their end
 abbrev pub DeliveriesRiseWith : ℕ → Option (ℕ × ℕ) → List Causes → Type 0
 DeliveriesRiseWith n None cs = Unit {0}
 DeliveriesRiseWith n (Some m) cs = Rises (and_last n (deliveries_at (causes_at cs m.0).deliveries (m.1 - 1)).items)

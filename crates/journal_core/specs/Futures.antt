@@ -19,14 +19,14 @@ abbrev pub Falls : List ℕ → Type 0
 Falls [] = Unit {0}
 Falls (n ∷ ns) = FallsBelow n ns
 
--- the numbers of step n and of all that follows from it, greatest first. There is one such list
+-- the numbers of step n and of all that follows from it, greatest first; none if step n doesn't remain. There is no other such list
 pub record IsFuture (ks : List Kept) (n : ℕ) (numbers : List ℕ) : Type 0 where
   -- a number is in the list if and only if its step follows
   pub follows : (j : ℕ) → (list_any (λ m. m == j) numbers ≡ true) ↔ Follows ks n j
   -- greatest first, and none twice
   pub falls : Falls numbers
 
--- the journal after these steps were taken back in turn; `None` if one of them had consequences at its turn
+-- the journal after these steps were taken back in turn; `None` if one of them, at its turn, doesn't remain or has a consequence
 abbrev pub undo_all : List Kept → List ℕ → Option (List Kept)
 undo_all ks [] = Some ks
 undo_all ks (n ∷ ns) = if is_some (find_number ks n) && is_none (first_consequence ks n) then undo_all (without ks n) ns else None

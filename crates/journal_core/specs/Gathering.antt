@@ -3,7 +3,8 @@ use Rattle.std.specs.Prelude.{ℕ, ◌==◌, ◌||◌, if◌then◌else◌, List
 use Rattle.std.specs.List.{list_any}
 use Rattle.journal_core.specs.Journals.{Kept, is_consequence}
 
--- step n and what follows from it, greatest first: a step still to come is added if it follows from one found
+-- step n and what follows from it, greatest first: a step still to come is added to those found if it is step n, or a direct consequence
+-- of one of those found
 abbrev pub gathered : List Kept → ℕ → List Kept → List Kept → List Kept
 gathered ks n found [] = found
 gathered ks n found (j ∷ js) =

@@ -1,4 +1,4 @@
--- The remaining steps with their inverses beside them, as a journal holds them and lends them.
+-- The remaining steps as a journal holds them, each with its inverse beside it, which the journal may lend.
 use Rattle.std.specs.Prelude.{◌≡◌, ℕ, ◌<◌, ◌==◌, Bool, if◌then◌else◌, List, [], ◌∷◌, Option, Some, None, refl}
 use Rattle.std.specs.Coded.{Coded, code_by, coded×, coded_ℕ, coded_bool, coded_list, coded_option}
 use Rattle.std.specs.List.{AllByRecursion}
@@ -59,7 +59,7 @@ abbrev pub inverse_of : Option Held → Option Inverse
 inverse_of None = None
 inverse_of (Some h) = h.inverse
 
--- the steps, with this inverse beside step n
+-- the steps, with this inverse, or none, beside step n
 abbrev pub with_inverse : List Held → ℕ → Option Inverse → List Held
 with_inverse [] n o = []
 with_inverse (h ∷ hs) n o = if h.kept.number == n then record { kept = h.kept; inverse = o } ∷ hs else h ∷ with_inverse hs n o
@@ -81,8 +81,8 @@ abbrev pub HasSender : List Kept → Option (ℕ × ℕ) → Type 0
 HasSender ks None = Unit {0}
 HasSender ks (Some m) = (n : ℕ) × (source_at ks (Some m) ≡ Some n)
 
--- the step can be kept: its number is above all others, its node is one of the nodes, what it delivers was sent, and no inverse
--- is lent
+-- the step can be kept: its number is above 0 and above all others, its node is one of the nodes, what it delivers, if anything, was sent
+-- by a remaining step, and no inverse is lent
 pub record CanBeKept (j : Journal) (number node : ℕ) (operation : Operation) : Type 0 where
   pub positive : 0 < number
   pub above : AreBelow number (kepts j.steps)

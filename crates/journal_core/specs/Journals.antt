@@ -35,7 +35,7 @@ own_steps ks n = filter (λ k. k.node == n) ks
 abbrev pub sent_by : List Kept → ℕ → List Kept
 sent_by ks node = filter (λ k. (k.node == node) && sends k.step) ks
 
--- the number of the step that sent message p of the node: its p-th sending step
+-- the number of the step that sent message p of the node: the node's p-th sending step
 abbrev pub sender_of : List Kept → ℕ → ℕ → Option ℕ
 sender_of ks node p = option_map (λ k. k.number) (numbered (sent_by ks node) p)
 
@@ -76,7 +76,7 @@ abbrev pub find_number : List Kept → ℕ → Option Kept
 find_number [] n = None
 find_number (k ∷ ks) n = if k.number == n then Some k else find_number ks n
 
--- step n remains, and is one of the node
+-- step n remains, and is a step of this node
 abbrev pub IsOfNode : List Kept → ℕ → ℕ → Type 0
 IsOfNode ks n node = (k : Kept) × (find_number ks n ≡ Some k) × (k.node ≡ node)
 
@@ -92,7 +92,7 @@ first_consequence ks n = option_and_then (λ k. first_number (is_consequence ks 
 abbrev pub without : List Kept → ℕ → List Kept
 without ks n = filter (λ k. not (k.number == n)) ks
 
--- the steps up to step n
+-- the steps before step n; all of them if it isn't there
 abbrev pub steps_before : List Kept → ℕ → List Kept
 steps_before [] n = []
 steps_before (k ∷ ks) n = if k.number == n then [] else k ∷ steps_before ks n

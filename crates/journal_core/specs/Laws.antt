@@ -10,15 +10,15 @@ pub record LoanLaw : Type 0 where
   -- an inverse that is lent and put back leaves all as before
   pub put_back : (hs : List Held) (n : ℕ) (i : Inverse) → inverse_of (find_held hs n) ≡ Some i →
       with_inverse (with_inverse hs n None) n (Some i) ≡ hs
-  -- a step whose inverse is lent and that is taken out leaves the others as they are
+  -- when a step is taken out, the same steps are left whether its inverse is lent or not
   pub taken_out : (hs : List Held) (n : ℕ) → without_held (with_inverse hs n None) n ≡ without_held hs n
 
 pub record FutureLaw : Type 0 where
-  -- each number has a future, which is empty if its step doesn't remain
+  -- in a journal in causal order each number has a future, which is empty if the number's step doesn't remain
   pub some : (ks : List Kept) (n : ℕ) → AreInCausalOrder ks → (numbers : List ℕ) × IsFuture ks n numbers
   -- each number has only one future
   pub one : (ks : List Kept) (n : ℕ) (a b : List ℕ) → IsFuture ks n a → IsFuture ks n b → a ≡ b
-  -- the steps of a future can be taken back in turn
+  -- the steps of a future can be taken back in turn, and all other steps remain
   pub taken_back : (ks : List Kept) (n : ℕ) (numbers : List ℕ) → AreInCausalOrder ks → IsFuture ks n numbers →
       undo_all ks numbers ≡ Some (without_all ks numbers)
   -- any undos that take a step back take back all that follows from it

@@ -5,7 +5,8 @@ use Rattle.smallvec.specs.SmallVec.{HasRoomFor}
 use Rattle.journal_core.specs.Holdings.{Room}
 use Rattle.journal_core.specs.Causes.{Causes, causes_at, deliveries_at, HasDeliveryRoom}
 
--- there is no less room for a step of a node, nor for a delivery of a message that is still there
+-- no node has less room for its steps than before, nor more messages; and each message that is still there has room for one more delivery
+-- if it had that before
 pub record KeepsRoom (cs ds : List Causes) : Type 0 where
   pub nodes : (n : ℕ) → (causes_at cs n).room ≤ (causes_at ds n).room
   pub shorter : (n : ℕ) → length (causes_at ds n).deliveries ≤ length (causes_at cs n).deliveries
@@ -17,7 +18,8 @@ abbrev pub HasDeliveryRoomIfThere : Option (ℕ × ℕ) → List Causes → Type
 HasDeliveryRoomIfThere None cs = Unit {0}
 HasDeliveryRoomIfThere (Some m) cs = 0 < m.1 → m.1 ≤ length (causes_at cs m.0).deliveries → HasDeliveryRoom (Some m) cs
 
--- a step for which this room was made needs no more
+-- this room is still there: a slot, a place in the node's index, and a place for the delivery, if one is named and its message is still
+-- there
 pub record IsPromised (cs : List Causes) (slots : ℕ) (r : Room) : Type 0 where
   pub slot : 0 < slots
   pub own : 0 < (causes_at cs r.node).room

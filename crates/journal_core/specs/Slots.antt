@@ -21,7 +21,7 @@ steps_in [] = []
 steps_in (None ∷ os) = steps_in os
 steps_in (Some h ∷ os) = h ∷ steps_in os
 
--- each step stands beside its number
+-- there are as many slots as numbers, and each step stands beside its own number
 abbrev pub AreAligned : List ℕ → List (Option Held) → Type 0
 AreAligned [] [] = Unit {0}
 AreAligned [] (o ∷ os) = ⊥
@@ -29,7 +29,7 @@ AreAligned (n ∷ ns) [] = ⊥
 AreAligned (n ∷ ns) (None ∷ os) = AreAligned ns os
 AreAligned (n ∷ ns) (Some h ∷ os) = (h.kept.number ≡ n) × AreAligned ns os
 
--- n is above the number of each step
+-- n is above 0, and above the number of each step
 abbrev pub IsAboveAll : ℕ → List Held → Type 0
 IsAboveAll n hs = (0 < n) × AllByRecursion (λ (h : Held). h.kept.number < n) hs
 
@@ -39,7 +39,7 @@ ends_empty [] = false
 ends_empty (o ∷ []) = is_none o
 ends_empty (o ∷ p ∷ os) = ends_empty (p ∷ os)
 
--- the step of a slot, with this inverse
+-- the slot with this inverse, or none, beside its step; an empty slot stays empty
 abbrev pub lent_in : Option Inverse → Option Held → Option Held
 lent_in i None = None
 lent_in i (Some h) = Some (record { kept = h.kept; inverse = i })

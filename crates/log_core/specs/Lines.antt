@@ -11,7 +11,7 @@ use Rattle.log_core.specs.Events.{Line, line_at}
 abbrev pub lines_of : List ℕ → List (List ℕ)
 lines_of bytes = slice_split (λ byte. byte == 10) bytes
 
--- a line of white space alone
+-- white space: a space, a tab or a carriage return; a blank line has no other bytes
 abbrev pub is_space : ℕ → Bool
 is_space byte = (byte == 32) || (byte == 9) || (byte == 13)
 
@@ -22,12 +22,12 @@ is_blank line = list_all is_space line
 abbrev pub longest_event : ℕ
 longest_event = 1048576
 
--- the line has this value; a blank line has none
+-- the line isn't too long and has this value; a blank line has none
 abbrev pub IsValueOf : List ℕ → Option Data → Type 0
 IsValueOf line None = (length line ≤ longest_event) × (is_blank line ≡ true)
 IsValueOf line (Some d) = (length line ≤ longest_event) × (is_blank line ≡ false) × IsUtf8 line × (read line ≡ Some d)
 
--- why the line has no value
+-- why no value of the line is given; that memory was refused says nothing of the line
 abbrev pub HasNoValue : List ℕ → LineFault → Type 0
 HasNoValue line TooLong = longest_event < length line
 HasNoValue line NotJson = (length line ≤ longest_event) × (is_blank line ≡ false) × (IsUtf8 line → read line ≡ None)

@@ -13,7 +13,8 @@ use Rattle.node_core.specs.Operations.{Operation}
 use Rattle.node_core.specs.Nodes.{Node, take, with_sent}
 use Rattle.node_core.specs.Invariant.{IsNode}
 
--- a step changed the replica; or it sent the delta; or it sent another message: an extract, a request or an answer
+-- the inverse of a step that sends nothing, with the change of the replica; of a broadcast; or of another send: an extract, a request or
+-- an answer
 pub data Inverse : Type 0 where
   OfChange : (change : changes.Change) → Inverse
   OfBroadcast : Inverse
@@ -24,13 +25,13 @@ plain_inverse (variants.Change change) = OfChange (changes.plain_change change)
 plain_inverse variants.Broadcast = OfBroadcast
 plain_inverse variants.Sent = OfSent
 
--- whether the step is taken back without memory, as one that sent a message is, and one whose change needs none
+-- whether a step with this inverse is taken back without memory: it sent a message, or its change needs none
 abbrev pub needs_no_memory : Inverse → Bool
 needs_no_memory (OfChange change) = changes.needs_no_memory change
 needs_no_memory OfBroadcast = true
 needs_no_memory OfSent = true
 
--- the change of the replica, if it has one
+-- the change that the inverse has, if it has one
 abbrev pub change_of : Inverse → Option changes.Change
 change_of (OfChange change) = Some change
 change_of OfBroadcast = None
@@ -60,13 +61,14 @@ inverse_code =
     code_by (Option changes.Change × Bool) (coded× (coded_option change_code) coded_bool) stored (λ t. from_stored t.0 t.1)
     from_stored-stored
 
--- the inverse names what a step from a to b destroyed of a
+-- the inverse names what a step that took node a to node b destroyed
 abbrev pub Names : Inverse → Node → Node → Type 0
 Names (OfChange change) b a = changes.ChangeLeadsBack change b.replica a.replica × (b.outbox ≡ a.outbox)
 Names OfBroadcast b a = b ≡ with_sent a (delta_message a.replica) (without_delta a.replica)
 Names OfSent b a = (m : Message) × (b ≡ with_sent a m a.replica)
 
--- the inverse leads from node b back to node a: one accepted step takes a to b, and the inverse names what it destroyed
+-- the inverse leads from node b back to node a, which keeps what each node keeps: one accepted step takes a to b, and the inverse names
+-- what that step destroyed
 pub record LeadsBack (inverse : Inverse) (b a : Node) : Type 0 where
   pub operation : Operation
   pub message : Option Message
@@ -74,15 +76,16 @@ pub record LeadsBack (inverse : Inverse) (b a : Node) : Type 0 where
   pub names : Names inverse b a
   pub earlier : IsNode a
 
--- the inverse leads back to some node
+-- the inverse leads from node b back to some node
 abbrev pub LeadsSomewhere : Inverse → Node → Type 0
 LeadsSomewhere inverse b = (a : Node) × LeadsBack inverse b a
 
--- the node is the one that the inverse leads back to
+-- if the inverse leads from node b back to a node, that is the new node
 abbrev pub GivesBack : Inverse → Node → Node → Type 0
 GivesBack inverse b new = (a : Node) → LeadsBack inverse b a → new ≡ a
 
--- `take` answers the step: it gives an inverse that leads back; or the fault, or want of memory, and nothing changed
+-- the node became what `take` says, and the inverse leads back; or it is unchanged, and the fault is the one that `take` says, or want of
+-- memory
 abbrev pub Takes : {X : Type 0} → Node → Operation → Option Message → Result (declared.Inverse X) StepFault → Node → Type 0
 Takes old s m (Ok inverse) new = (take old s m ≡ Ok new) × LeadsBack (plain_inverse inverse) new old
 Takes old s m (Err fault) new = (new ≡ old) × (fault ≢ OutOfMemory → take old s m ≡ Err fault)

@@ -8,7 +8,8 @@ use Rattle.node_core.specs.Inverses.{Inverse, LeadsBack, change_of}
 abbrev pub OneWayBackLaw : Type 0
 OneWayBackLaw = (inverse : Inverse) (now one other : Node) → LeadsBack inverse now one → LeadsBack inverse now other → one ≡ other
 
--- the change of an inverse leads back as the inverse does; if there is none, entries and view are the same
+-- if an inverse leads back to a node, its change leads back to that node's replica; if it has no change, the two nodes have the same
+-- entries and the same view
 pub record ChangeOfLaw : Type 0 where
   pub some : (inverse : Inverse) (change : Change) (now earlier : Node) → LeadsBack inverse now earlier → change_of inverse ≡ Some change →
       ChangeLeadsBack change now.replica earlier.replica

@@ -33,7 +33,7 @@ opening_node own limits = record { replica = opening own limits; outbox = [] }
 abbrev pub with_replica : Node → Replica → Node
 with_replica n r = record { replica = r; outbox = n.outbox }
 
--- the message was sent, and the replica is as the send left it
+-- the node after a send: this message is the last of its outbox, and this is its replica
 abbrev pub with_sent : Node → Message → Replica → Node
 with_sent n m r = record { replica = r; outbox = n.outbox ++ m ∷ [] }
 
@@ -54,11 +54,11 @@ abbrev pub broadcast : Bool → Node → Result Node StepFault
 broadcast false n = Err NothingToSend
 broadcast true n = unless_full n (with_sent n (delta_message n.replica) (without_delta n.replica))
 
--- a send of what the node has seen and holds of these names
+-- a send of the node's seen dots and entries of these names, unless the outbox is full
 abbrev pub extract : Node → Names → Result Node StepFault
 extract n names = unless_full n (with_sent n (message_of_names (set.contains names) n.replica.own n.replica.store.seen n.replica.store.entries) n.replica)
 
--- a delivery of a message that asks for these names, or for none; a request can't be delivered like this
+-- a delivery of a message, which may ask for names; one that asks for names is a request, and is refused here
 abbrev pub deliver_unasked : Option Names → Node → Message → Result Node StepFault
 deliver_unasked None n m = unless (merge_refusal n.replica m) (with_replica n (merged m n.replica))
 deliver_unasked (Some names) n m = Err IsRequest
@@ -68,7 +68,8 @@ abbrev pub deliver : Node → Option Message → Result Node StepFault
 deliver n None = Err NoSuchMessage
 deliver n (Some m) = deliver_unasked m.asked n m
 
--- an answer to a message that asks for these names, or for none: it sends what the answering node has of them
+-- an answer to a message, which may ask for names: it sends what the answering node has of them; if the message asks for none, it is
+-- refused
 abbrev pub answer_asked : Option Names → Node → Result Node StepFault
 answer_asked None n = Err NotRequest
 answer_asked (Some names) n = extract n names

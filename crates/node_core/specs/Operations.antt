@@ -37,7 +37,7 @@ plain (steps.Up name) = Up name
 plain (steps.Down name) = Down name
 plain (steps.Permdown name) = Permdown name
 
--- the sender and the number of the message that a step delivers
+-- the sender and the number of the message that a step delivers, if it delivers one, as an answer does too
 abbrev pub delivers : Operation → Option (ℕ × ℕ)
 delivers (Join presence) = None
 delivers (Leave pid topic key) = None
@@ -82,7 +82,7 @@ named_in (Up name) = name ∷ []
 named_in (Down name) = name ∷ []
 named_in (Permdown name) = name ∷ []
 
--- the numbers that name nodes in a step are below `most_names`, as those in a set of names are
+-- each node number in a step is below `most_names`; the set of names of an extract isn't looked at
 abbrev pub AreNames : Operation → Type 0
 AreNames (Join presence) = Unit {0}
 AreNames (Leave pid topic key) = Unit {0}

@@ -25,6 +25,6 @@ page_after = SCRIPT_BEGINS.now ++ SCRIPT.now ++ TAIL.now
 unfoldable pub report_text : List ℕ → List ℕ
 report_text report = REPORT_BEGINS.now ++ escaped report ++ RUN_BEGINS.now
 
--- the page of a run: what stands there without scripts, its still picture, its report, and its data
+-- the page of a run: its still picture and its report, which are for a reader without scripts, and its data
 unfoldable pub page_text : List ℕ → List ℕ → List ℕ → List ℕ
 page_text still report run = page_before ++ still ++ report_text report ++ run ++ page_after

@@ -1,9 +1,9 @@
--- What a contract sees of an outbox: how many messages it may hold, those that it holds, and how many more have memory.
+-- What a contract sees of an outbox: how many messages it may hold, those that it holds, and for how many more there is room.
 use Rattle.std.specs.Prelude.{ℕ, List, refl}
 use Rattle.std.specs.Coded.{Coded, code_by, coded×, coded_ℕ, coded_list}
 use Rattle.payload_core.specs.Messages.{Message, message_code}
 
--- the messages in the order of their numbers; neither `same` nor a copy looks at the room
+-- the messages stand in the order of their numbers; outboxes with the same limit and messages may differ in their room
 pub record Outbox : Type 0 where
   pub limit : ℕ
   pub messages : List Message

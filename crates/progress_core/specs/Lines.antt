@@ -15,7 +15,7 @@ walked_line work =
     codes "presence_bench: " ++ decimal work.states ++ codes " states, " ++ decimal work.outcomes ++ codes " outcomes, " ++
     decimal work.left ++ codes " steps left\n"
 
--- a line went out, or a beginning of it
+-- a line went out, whole if the flag is true; else a beginning of it, at most
 abbrev pub Puts : List ℕ → Bool → Option (List ℕ) → Option (List ℕ) → Type 0
 Puts line true old new = Appends old new line
 Puts line false old new = (count : ℕ) × Appends old new (take count line)
@@ -24,15 +24,15 @@ Puts line false old new = (count : ℕ) × Appends old new (take count line)
 abbrev pub TellsLines : {P : Type 0} → (P → List ℕ) → Option (List ℕ) → Option (List ℕ) → Type 0
 TellsLines {P} line old new = (works : List P) × (count : ℕ) × Appends old new (take count (flat_map line works))
 
--- a beginning of some lines of this form went out; and each line whole, if more can come
+-- a beginning of some lines of this form went out; if more can go out, only whole lines did
 pub record HasTold {P : Type 0} (line : P → List ℕ) (able : Bool) (old new : Option (List ℕ)) : Type 0 where
   pub part : TellsLines line old new
   pub whole : able ≡ true → (works : List P) × Appends old new (flat_map line works)
 
--- how many changes were tried
+-- a beginning of some lines that say how many changes were tried went out
 abbrev pub TellsTried : Option (List ℕ) → Option (List ℕ) → Type 0
 TellsTried old new = TellsLines (λ work. tried_line work) old new
 
--- how far a walk has come
+-- a beginning of some lines that say how far a walk has come went out
 abbrev pub TellsWalked : Option (List ℕ) → Option (List ℕ) → Type 0
 TellsWalked old new = TellsLines (λ work. walked_line work) old new

@@ -10,11 +10,11 @@ use Rattle.replica_core.specs.declared.status.Status.{Status}
 use Rattle.replica_core.specs.Views.{status_code}
 use Rattle.replica_core.specs.Changes.{Change, OfJoin, OfLeave, OfLeaveAll, OfUpdate, OfDeliver, OfUp, OfDown, OfPermdown}
 
--- what left: one entry, and whether by a leave; or several
+-- what left: nothing, of a join; one entry, and whether by a leave or else by an update; or a list, of a leave all
 abbrev Lefts : Type 0
 Lefts = Option (Bool × Left) ⊎ List Left
 
--- a name with its old status, and whether it went up; or a name with what was held of it
+-- a name with its old status, and whether by an up or else by a down; or a name with what was held of it, of a permanently down
 abbrev Names : Type 0
 Names = (Bool × (ℕ × Option Status)) ⊎ (ℕ × Forgotten)
 

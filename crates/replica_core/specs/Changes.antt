@@ -34,7 +34,7 @@ pub data Change : Type 0 where
   OfDown : ℕ → Option Status → Change
   -- the name, and what was held of it
   OfPermdown : ℕ → Forgotten → Change
-  -- what joined, what left, and the dots from before
+  -- the dots that joined, the entries that left, and the old parts of the names whose dots changed
   OfDeliver : Delivered → Change
 
 abbrev pub plain_change : {X : Type 0} → declared.Change X → Change
@@ -62,11 +62,11 @@ needs_no_memory (OfDeliver d) = false
 abbrev pub without_last : Replica → Replica
 without_last r = record r { store = without (last r) r.store; delta = without (last r) r.delta }
 
--- the replica without its last own dot, and with what left
+-- the replica with what left put back, in the store and in the delta
 abbrev pub with_left : Left → Replica → Replica
 with_left l r = record r { store = restored l r.store; delta = restored_delta l r.delta }
 
--- the name has its old status, or is not known
+-- the name has its old status, or is not known if none is given
 abbrev pub with_old_status : ℕ → Option Status → Replica → Replica
 with_old_status name before r = record r { view = with_old name before r.view }
 
@@ -138,12 +138,12 @@ IsCallOf (OfDown name before) a b = IsDown name before a b
 IsCallOf (OfPermdown name f) a b = IsPermdown name f a b
 IsCallOf (OfDeliver d) a b = IsDelivery d a b
 
--- the change leads from replica b back to replica a
+-- the change leads from replica b back to replica a, which keeps what each replica keeps
 pub record ChangeLeadsBack (change : Change) (b a : Replica) : Type 0 where
   pub call : IsCallOf change a b
   pub earlier : IsReplica a
 
--- what left can be put back
+-- what left can be put back into replica b, once its last own dot is out, which gives replica a
 pub record Restorable (l : Left) (b a : Replica) : Type 0 where
   pub earlier : IsReplica a
   pub back : with_left l (without_last b) ≡ a
@@ -155,10 +155,10 @@ pub record Restorable (l : Left) (b a : Replica) : Type 0 where
 abbrev pub ChangeLeadsSomewhere : Change → Replica → Type 0
 ChangeLeadsSomewhere change b = (a : Replica) × ChangeLeadsBack change b a
 
--- the replica is the one that the change leads back to
+-- whichever replica the change leads back to is the new one
 abbrev pub ChangeGivesBack : Change → Replica → Replica → Type 0
 ChangeGivesBack change b new = (a : Replica) → ChangeLeadsBack change b a → new ≡ a
 
--- a change leads back to one replica: the one that `back` makes
+-- a change leads from a replica back to at most one: the one that `back` makes
 abbrev pub BackLaw : Type 0
 BackLaw = (change : Change) (b a : Replica) → ChangeLeadsBack change b a → back change b ≡ a

@@ -13,7 +13,8 @@ use Rattle.replica_core.specs.Refusals.{merge_refusal}
 abbrev pub AreOtherKnown : Names → Replica → Type 0
 AreOtherKnown names r = (n : ℕ) → set.contains names n ≡ is_other_known r n
 
--- the replica with the delivery taken back: without what joined, and with what left
+-- the replica with the delivery taken back: without the entries that joined, with those that left, and with the old parts of the names
+-- whose dots changed
 abbrev pub with_undelivered : Delivered → Replica → Replica
 with_undelivered d r = record r { store = undelivered d r.store }
 

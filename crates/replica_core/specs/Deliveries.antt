@@ -15,6 +15,7 @@ is_other_known r name = is_known r name && not (name == r.own)
 abbrev pub merged : Message → Replica → Replica
 merged m r = record r { store = stores.merged (is_other_known r) (store_of m) r.store }
 
--- each dot of another known name has the greater of its two standings, and each other dot the one that it had
+-- each dot of another known name has the greater of its two standings, that in the store before and that in the message, and each other
+-- dot the standing that it had
 abbrev pub TakesGreaterStandings : Message → Replica → Replica → Type 0
 TakesGreaterStandings m before after = laws.TakesGreaterStandings (is_other_known before) (store_of m) before.store after.store

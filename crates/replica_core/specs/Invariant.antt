@@ -22,12 +22,13 @@ pub record IsReplica (r : Replica) : Type 0 where
   pub name : r.own < most_names
   pub up : fin.get r.view r.own ≡ Some Up
   pub limits : AreNodeLimits r.limits
-  -- dots that were seen are valid and of known names; the own ones are those with the clocks from 1 to the own clock
+  -- dots that were seen are valid and of known names; the own ones are those with the clocks from 1 to the own clock, which is not
+  -- above its limit
   pub valid : AreValid r.store.seen
   pub known : (d : Dot) → set.contains r.store.seen d ≡ true → is_known r d.name ≡ true
   pub clocks : HasClocks r.own r.store.seen
   pub clock : own_clock r ≤ r.limits.clock
-  -- an entry's dot was seen; own entries differ
+  -- an entry's dot was seen; there are no more entries than the limit; own entries differ in process, topic or key
   pub live : AreSeen r.store.seen r.store.entries
   pub few : fin.len r.store.entries ≤ r.limits.entries
   pub once : IsOnce r

@@ -1,4 +1,4 @@
--- Leaves one after another, as edits of a replica's sets.
+-- Own dots that a replica has seen, such as those whose entries leave.
 use Rattle.std.specs.Prelude.{◌≡◌, true, List}
 use Rattle.std.specs.FinSet as set
 use Rattle.std.specs.List.{AllByRecursion}

@@ -21,7 +21,7 @@ left_by (OfDown name before) = []
 left_by (OfPermdown name f) = f.entries
 left_by (OfDeliver d) = d.left
 
--- the dots whose entries joined by a call that left this replica
+-- the dots of the entries that joined by the call, after which the replica is this one
 abbrev pub joined_by : Change → Replica → List Dot
 joined_by OfJoin r = last r ∷ []
 joined_by (OfLeave l) r = []
@@ -47,19 +47,19 @@ abbrev pub hidden_by : Change → Option ℕ
 hidden_by (OfDown name before) = name_if (is_some_up before) name
 hidden_by _ = None
 
--- whether it is this name
+-- whether there is a name, and it is this one
 abbrev pub is_named : Option ℕ → ℕ → Bool
 is_named None n = false
 is_named (Some name) n = n == name
 
 -- what the change of a call that took replica a to replica b says of the two
 pub record Moves (change : Change) (b a : Replica) : Type 0 where
-  -- without what joined, and with what left, the entries are those from before
+  -- the entries of b, without those that joined and with those that left, are the entries of a
   pub entries : a.store.entries ≡ with_each (pairs (left_by change)) (without_each (joined_by change b) b.store.entries)
-  -- no entry that left is there, and no two dots that joined are the same
+  -- b has no entry at the dot of one that left; neither two entries that left nor two that joined have one dot
   pub gone : AreNew (pairs (left_by change)) b.store.entries
   pub differ : Differ (joined_by change b)
-  -- the name that went up, or that isn't up any more, is the one that the change has
+  -- the change has the name that is up in b and not in a, if there is one, and the name that is up in a and not in b, if there is one
   pub shown : (n : ℕ) → is_named (shown_by change) n ≡ (is_online b n && not (is_online a n))
   pub hidden : (n : ℕ) → is_named (hidden_by change) n ≡ (is_online a n && not (is_online b n))
   -- if an entry left or joined, no name went up or down

@@ -16,14 +16,14 @@ with_lefts ls r = record r {
   delta = restored_delta_each r.own (own_clock r - length ls) ls r.delta;
 }
 
--- an accepted leave of every entry of a process takes replica a to replica b, and the list has what stood in a at their dots
+-- an accepted leave of every entry of a process takes replica a to replica b, and the list has what stood in a at the entries' dots
 pub record IsLeaveAll (ls : List Left) (a b : Replica) : Type 0 where
   pub pid : ℕ
   pub accepted : leave_all_refusal a pid ≡ None
   pub stood : ls ≡ lefts_of (dots_of_process a pid) a.store.entries a.delta.entries a.delta.seen
   pub gives : b ≡ left_each (dots_of_process a pid) a
 
--- all that left can be put back
+-- all that left can be put back into replica b, which gives replica a
 pub record AllRestorable (ls : List Left) (b a : Replica) : Type 0 where
   pub earlier : IsReplica a
   pub back : with_lefts ls b ≡ a

@@ -16,7 +16,7 @@ abbrev pub first_of : {F : Type 0} → List (Bool × F) → Option F
 first_of [] = None
 first_of (test ∷ tests) = if test.0 then Some test.1 else first_of tests
 
--- the call succeeds only if it has no cause against it, and a fault is that cause, unless it is want of memory
+-- the call succeeds only if there is no cause against it, and its fault is the cause, unless the fault is want of memory
 abbrev pub IsRefusedFor : {X : Type 0} → Option ReplicaFault → Result X ReplicaFault → Type 0
 IsRefusedFor cause (Ok _) = cause ≡ None
 IsRefusedFor cause (Err fault) = fault ≢ OutOfMemory → cause ≡ Some fault
@@ -38,7 +38,7 @@ are_too_many r entries = nat_lt r.limits.entries entries
 abbrev pub is_clock_full : Replica → ℕ → Bool
 is_clock_full r more = nat_lt r.limits.clock (own_clock r + more)
 
--- why a call is refused, if it is: the causes in the order in which it looks for them
+-- why a call is refused, if it is: the causes in the order in which they are looked for
 
 abbrev pub join_refusal : Replica → ℕ → List ℕ → List ℕ → Option ReplicaFault
 join_refusal r pid topic key =

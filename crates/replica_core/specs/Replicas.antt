@@ -16,7 +16,7 @@ use Rattle.replica_core.specs.Limits.{node_limits_code}
 use Rattle.replica_core.specs.Views.{View, view_code, is_some_up, known_of}
 
 -- the own name, the limits, all that was seen with the live entries, the statuses of the known names; and the delta: the own dots
--- that weren't sent yet, with the entries among them
+-- that the replica's steps touched since its last broadcast, with the live entries among them
 pub record Replica : Type 0 where
   pub own : ℕ
   pub limits : NodeLimits
@@ -37,7 +37,7 @@ own_clock r = count_of r.own r.store.seen
 abbrev pub fresh : Replica → Dot
 fresh r = dot r.own (own_clock r + 1)
 
--- the last own dot
+-- the own dot whose clock is the own clock: the last own one, if there is one
 abbrev pub last : Replica → Dot
 last r = dot r.own (own_clock r)
 
@@ -65,11 +65,11 @@ is_online r name = is_some_up (fin.get r.view name)
 abbrev pub joined : Presence → Replica → Replica
 joined p r = record r { store = with_entry (fresh r) p r.store; delta = with_entry (fresh r) p r.delta }
 
--- the entry at the dot goes, and the delta keeps its dot alone
+-- the entry at the dot goes; the delta has the dot from then on, and no entry there
 abbrev pub dropped : Dot → Replica → Replica
 dropped d r = record r { store = without_entry d r.store; delta = with_removal d r.delta }
 
--- the fresh dot was seen and has no entry, in the store and in the delta
+-- the fresh dot was seen, in the store and in the delta; the entries of both stay
 abbrev pub ticked : Replica → Replica
 ticked r = record r { store = with_dot (fresh r) r.store; delta = with_dot (fresh r) r.delta }
 
@@ -95,7 +95,7 @@ updated p r = joined p (dropped_each (tracked_dots r p.pid p.topic p.key) r)
 abbrev pub with_status : ℕ → Status → Replica → Replica
 with_status name s r = record r { view = fin.insert r.view name s }
 
--- nothing is held of the name: its dots were not seen, its entries are gone, and it is not known
+-- nothing is held of the name: its dots were not seen, its entries are gone, and it is not known; the delta stays
 abbrev pub forgotten : ℕ → Replica → Replica
 forgotten name r = record r { store = part (is_other name) r.store; view = fin.remove r.view name }
 

@@ -1,4 +1,4 @@
--- What a replica knows of the other replicas' names (Phoenix.Tracker.State: the statuses of its replicas).
+-- Which names a replica knows, and the status of each (Phoenix.Tracker.State: the statuses of its replicas).
 use Rattle.std.specs.Prelude.{◌≡◌, ℕ, Bool, true, false, List, [], ◌∷◌, Option, None, Some, refl}
 use Rattle.std.specs.Coded.{Coded, code_by, coded_ℕ, coded_bool}
 use Rattle.std.specs.Ordering.{nat_cmp}
@@ -35,7 +35,7 @@ known_of view = set.from_list (fin.keys view)
 abbrev pub AreKnown : View → Names → Type 0
 AreKnown view names = (n : ℕ) → set.contains names n ≡ fin.contains_key view n
 
--- the view of a list of names, some of which are up
+-- the view that knows the names of the list: as up those among `up`, and as down the others
 abbrev pub view_of : List ℕ → Names → View
 view_of [] up = fin.empty
 view_of (n ∷ ns) up = fin.insert (view_of ns up) n (status_by (set.contains up n))
@@ -57,7 +57,7 @@ status_code = code_by Bool coded_bool is_up status_by by_up
 abbrev pub view_code : Coded View
 view_code = fin.code coded_ℕ status_code
 
--- the name has this status, or is not known
+-- the name has this status, or is not known if none is given
 abbrev pub with_old : ℕ → Option Status → View → View
 with_old name None view = fin.remove view name
 with_old name (Some s) view = fin.insert view name s

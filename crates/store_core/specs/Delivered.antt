@@ -39,13 +39,13 @@ abbrev pub NamesRise : List OldPart → Type 0
 NamesRise [] = Unit {0}
 NamesRise (p ∷ ps) = AllByRecursion (λ (q : OldPart). p.name < q.name) ps × NamesRise ps
 
--- the parts that the set has of the names which change, by rising name
+-- the parts that the set s has of the names which `other` changes, by rising name
 pub record AreOldParts (named : ℕ → Bool) (other s : Dots) (ps : List OldPart) : Type 0 where
   pub rise : NamesRise ps
   pub parts : AllByRecursion (λ (p : OldPart). IsPartOf s p.name p.part) ps
   pub names : (n : ℕ) → (is_old ps n ≡ true) ↔ Changes named other s n
 
--- what a delivery of `other`, for these names, destroys of a store: this, and nothing more
+-- d has what a delivery of `other`, for these names, destroys of a store, and nothing more
 pub record Destroys (named : ℕ → Bool) (other s : Store) (d : Delivered) : Type 0 where
   pub joined : d.joined ≡ fin.keys (arrivals named other s)
   pub left : pairs d.left ≡ fin.entries (departures named other s)
@@ -56,6 +56,6 @@ abbrev pub with_parts : List OldPart → Dots → Dots
 with_parts [] s = s
 with_parts (p ∷ ps) s = with_parts ps (with_part p.name p.part s)
 
--- the store without what joined, and with what left
+-- the store with the old parts of the names whose dots changed, without the entries that joined, and with those that left
 abbrev pub undelivered : Delivered → Store → Store
 undelivered r s = record { seen = with_parts r.parts s.seen; entries = with_each (pairs r.left) (without_each r.joined s.entries) }

@@ -23,7 +23,7 @@ pub record DeltaStore : Type 0 where
   pub store : Store
   pub delta : Store
 
--- what each keeps
+-- what each store with its delta keeps
 pub record IsDeltaStore (s : DeltaStore) : Type 0 where
   pub name : s.own < most_names
   -- seen dots are valid; the own ones are those with the clocks from 1 to the own clock; an entry's dot was seen
@@ -43,7 +43,7 @@ own_clock s = count_of s.own s.store.seen
 abbrev pub fresh : DeltaStore → Dot
 fresh s = dot s.own (own_clock s + 1)
 
--- the last own dot
+-- the own dot whose clock is the own clock: the last own one, if there is one
 abbrev pub last : DeltaStore → Dot
 last s = dot s.own (own_clock s)
 
@@ -55,11 +55,11 @@ empty own = record { own = own; store = nothing; delta = nothing }
 abbrev pub joined : Presence → DeltaStore → DeltaStore
 joined p s = record s { store = with_entry (fresh s) p s.store; delta = with_entry (fresh s) p s.delta }
 
--- the entry at the dot goes, and the delta keeps its dot alone
+-- the entry at the dot goes; the delta has the dot from then on, and no entry there
 abbrev pub dropped : Dot → DeltaStore → DeltaStore
 dropped d s = record s { store = without_entry d s.store; delta = with_removal d s.delta }
 
--- the fresh dot was seen and has no entry, in the store and in the delta
+-- the fresh dot was seen, in the store and in the delta; the entries of both stay
 abbrev pub ticked : DeltaStore → DeltaStore
 ticked s = record s { store = with_dot (fresh s) s.store; delta = with_dot (fresh s) s.delta }
 
@@ -72,11 +72,11 @@ abbrev pub left_each : List Dot → DeltaStore → DeltaStore
 left_each [] s = s
 left_each (d ∷ ds) s = left_each ds (left d s)
 
--- the last own dot and its entry are gone
+-- the last own dot and its entry are gone, from the store and from the delta
 abbrev pub without_last : DeltaStore → DeltaStore
 without_last s = record s { store = without (last s) s.store; delta = without (last s) s.delta }
 
--- the last own dot is gone, and what left is back
+-- the last own dot and its entry, if it has one, are gone, and what left is back
 abbrev pub with_left : Left → DeltaStore → DeltaStore
 with_left l s = record s { store = restored l (without (last s) s.store); delta = restored_delta l (without (last s) s.delta) }
 
@@ -87,7 +87,8 @@ with_lefts ls s = record s {
   delta = restored_delta_each s.own (own_clock s - length ls) ls s.delta;
 }
 
--- the delivery is taken back: what joined is gone, and what left is back
+-- the delivery is taken back: the entries that joined are gone, those that left are back, and names whose dots changed have their old
+-- parts
 abbrev pub with_undelivered : Delivered → DeltaStore → DeltaStore
 with_undelivered d s = record s { store = undelivered d s.store }
 
@@ -99,7 +100,8 @@ with_remembered name f s = record s { store = remembered name f s.store }
 abbrev pub AreOwn : List Dot → DeltaStore → Type 0
 AreOwn ds s = AllByRecursion (λ (d : Dot). (d.name ≡ s.own) × (set.contains s.store.seen d ≡ true)) ds
 
--- what an edit left can be put back: it has its place, and the store from before was one
+-- when each kind of edit can be taken back: what it took out has a place, and the store and delta that come back keep what each store
+-- with its delta keeps
 
 pub record CanBeUnjoined (s : DeltaStore) : Type 0 where
   pub some : 0 < own_clock s
@@ -127,20 +129,20 @@ pub record CanBeRemembered (name : ℕ) (f : Forgotten) (s : DeltaStore) : Type 
   pub new : AreNew (pairs f.entries) s.store.entries
   pub earlier : IsDeltaStore (with_remembered name f s)
 
--- the message can be the delta of a store that has none
+-- the message can be the delta of the store: its dots are own ones that were seen, and its entries are the store's at their dots
 pub record CanBeDelta (m : Message) (s : DeltaStore) : Type 0 where
   pub own : (d : Dot) → set.contains m.seen d ≡ true → (d.name ≡ s.own) × (set.contains s.store.seen d ≡ true)
   pub live : (d : Dot) (p : Presence) → fin.get m.entries d ≡ Some p → fin.get s.store.entries d ≡ Some p
 
--- the delta went out
+-- the delta is empty
 abbrev pub without_delta : DeltaStore → DeltaStore
 without_delta s = record s { delta = nothing }
 
--- the message is the delta
+-- the delta has the dots and the entries of the message
 abbrev pub with_delta : Message → DeltaStore → DeltaStore
 with_delta m s = record s { delta = store_of m }
 
--- it is stored as the tuple of its fields
+-- a store with its delta is stored as the tuple of its fields
 abbrev pub delta_store_code : Coded DeltaStore
 delta_store_code =
     code_by (ℕ × (Store × Store)) (coded× coded_ℕ (coded× store_code store_code)) (λ s. (s.own, (s.store, s.delta)))

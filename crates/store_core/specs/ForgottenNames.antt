@@ -13,7 +13,7 @@ pub record Forgotten : Type 0 where
   pub part : Clocks
   pub entries : List Entry
 
--- what a store holds of the name: this, and nothing more
+-- f has what the store holds of the name, and nothing more
 pub record Holds (name : ℕ) (s : Store) (f : Forgotten) : Type 0 where
   pub part : IsPartOf s.seen name f.part
   pub entries : pairs f.entries ≡ fin.entries (entries_of_names (λ n. n == name) s.entries)

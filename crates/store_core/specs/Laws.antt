@@ -18,13 +18,15 @@ AgainLaw = (named : ℕ → Bool) (m s : Store) → merged named m (merged named
 abbrev pub Agree : Entries → Entries → Type 0
 Agree one other = (d : Dot) (p q : Presence) → fin.get one d ≡ Some p → fin.get other d ≡ Some q → p ≡ q
 
--- if two stores have no different entries at one dot, they merge to the same store in either order
+-- two stores that are merged into a third give the same in either order, if the two have no different entries at one dot, and in each
+-- of the three each entry's dot was seen
 abbrev pub OrderLaw : Type 0
 OrderLaw =
     (named : ℕ → Bool) (m n s : Store) → IsStore s → IsStore m → IsStore n → Agree m.entries n.entries →
     merged named n (merged named m s) ≡ merged named m (merged named n s)
 
--- each dot of these names has the greater of its two standings, and each other dot the one that it had
+-- each dot of these names has in `after` the greater of its standings in `before` and in m, and each other dot the standing that it had
+-- in `before`
 pub record TakesGreaterStandings (named : ℕ → Bool) (m before after : Store) : Type 0 where
   pub known : (d : Dot) → named d.name ≡ true → standing after d ≡ max (standing before d) (standing m d)
   pub others : (d : Dot) → named d.name ≡ false → standing after d ≡ standing before d

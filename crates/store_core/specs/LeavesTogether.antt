@@ -17,21 +17,21 @@ abbrev pub with_dots : List Dot → Dots → Dots
 with_dots [] s = s
 with_dots (d ∷ ds) s = with_dots ds (set.insert s d)
 
--- the set with this many dots of the name above this clock
+-- the set after this many dots of the name are put in: those right above this clock
 abbrev pub with_next : ℕ → ℕ → ℕ → Dots → Dots
 with_next name clock zero s = s
 with_next name clock (suc n) s = set.insert (with_next name clock n s) (dot name (clock + suc n))
 
--- the set without this many dots of the name above this clock
+-- the set without this many dots of the name: those right above this clock
 abbrev pub without_next : ℕ → ℕ → ℕ → Dots → Dots
 without_next name clock zero s = s
 without_next name clock (suc n) s = without_next name clock n (set.remove s (dot name (clock + suc n)))
 
--- the store after the entries at these dots left, if this was the last clock of the name: it has seen a next dot for each
+-- the store after the entries at these dots left: it has seen one more dot of the name for each, from right above this clock on
 abbrev pub left_store : ℕ → ℕ → List Dot → Store → Store
 left_store name clock ds s = record { seen = with_next name clock (length ds) s.seen; entries = without_each ds s.entries }
 
--- the delta after that: it has the dots of what left, too
+-- the delta after the entries at these dots left: it has these dots, and one more dot of the name for each, from right above this clock on
 abbrev pub left_delta : ℕ → ℕ → List Dot → Store → Store
 left_delta name clock ds s = record { seen = with_next name clock (length ds) (with_dots ds s.seen); entries = without_each ds s.entries }
 
@@ -57,7 +57,7 @@ abbrev pub without_found : List Left → Entries → Entries
 without_found [] es = es
 without_found (l ∷ ls) es = without_found ls (fin.remove es l.entry.dot)
 
--- one that left, if its dot has an entry
+-- the one that left, as a list, if its dot has an entry; else nothing
 abbrev pub left_if : Left → Bool → List Left
 left_if l false = []
 left_if l true = l ∷ []
@@ -80,17 +80,18 @@ abbrev pub unsent_left : List Left → List Entry
 unsent_left [] = []
 unsent_left (l ∷ ls) = listed l.unsent ++ unsent_left ls
 
--- the dots, without those of what left, unless they stood there before
+-- the dots, without the dot of each entry that left, if the dot had not stood there before
 abbrev pub dots_before_each : List Left → Dots → Dots
 dots_before_each [] s = s
 dots_before_each (l ∷ ls) s = dots_before_each ls (dots_before l.in_delta l.entry.dot s)
 
--- the store with what left, and without the dots above this clock that were seen for it
+-- the store with the entries that left, and without the dots of the name right above this clock, one for each of these entries
 abbrev pub restored_each : ℕ → ℕ → List Left → Store → Store
 restored_each name clock ls s =
     record { seen = without_next name clock (length ls) s.seen; entries = with_each (pairs (entries_left ls)) s.entries }
 
--- the delta with what left it, and without the dots that were not in it before
+-- the delta with its entries that left, and without the dots that it got: those of the name right above this clock, one for each entry
+-- that left the store, and the dot of each of these entries that had not stood in the delta before
 abbrev pub restored_delta_each : ℕ → ℕ → List Left → Store → Store
 restored_delta_each name clock ls s = record {
   seen = dots_before_each ls (without_next name clock (length ls) s.seen);

@@ -43,7 +43,7 @@ dots_before false d s = set.remove s d
 abbrev pub restored_delta : Left → Store → Store
 restored_delta left delta = record { seen = dots_before left.in_delta left.entry.dot delta.seen; entries = put left.unsent delta.entries }
 
--- no entry stands at its dot
+-- no entry stands at the dot of this one, if there is one
 abbrev pub IsFree : Option Entry → Entries → Type 0
 IsFree None es = Unit {0}
 IsFree (Some e) es = fin.get es e.dot ≡ None

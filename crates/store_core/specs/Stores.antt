@@ -29,7 +29,7 @@ with_entry d p s = record { seen = set.insert s.seen d; entries = fin.insert s.e
 abbrev pub with_removal : Dot → Store → Store
 with_removal d s = record { seen = set.insert s.seen d; entries = fin.remove s.entries d }
 
--- the dot was seen, and nothing else
+-- the dot was seen; the entries stay
 abbrev pub with_dot : Dot → Store → Store
 with_dot d s = record s { seen = set.insert s.seen d }
 
@@ -81,6 +81,6 @@ remaining named other s = fin.retain_keys s.entries (λ d. not (leaves named oth
 abbrev pub merged : (ℕ → Bool) → Store → Store → Store
 merged named other s = record { seen = set.union s.seen (of_names named other.seen); entries = over (arrivals named other s) (remaining named other s) }
 
--- how a dot stands: 0 if it was not seen, 1 if it has an entry, 2 if its entry went
+-- how a dot stands: 1 if it has an entry; else 2 if it was seen, and 0 if it was not
 abbrev pub standing : Store → Dot → ℕ
 standing s d = if fin.contains_key s.entries d then 1 else (if set.contains s.seen d then 2 else 0)

@@ -5,17 +5,17 @@ use Rattle.std.specs.List.{All}
 use Rattle.std.specs.Io.BufRead.{drop_through, first_piece}
 use Rattle.std.specs.Io.KnownBytes.{Consumes}
 
--- the front of a line: all of it, or the beginning of a longer one
+-- the front of a line: its first `most` bytes, or all of it if it isn't longer
 unfoldable pub line_front : ℕ → List ℕ → List ℕ
 line_front most line = take most line
 
--- the front of the next line of what a reader has left; or nothing at its end
+-- if the reader's bytes are known: the front of the next line of what it has left, where the whole line is taken; or nothing at its end
 abbrev pub IsNext : ℕ → Option (List ℕ) → Option (List ℕ) → Option (List ℕ) → Type 0
 IsNext most None new line = ⊤
 IsNext most (Some left) new None = (left ≡ []) × (new ≡ Some [])
 IsNext most (Some left) new (Some line) = (left ≢ []) × (line ≡ line_front most (first_piece 10 left)) × (new ≡ Some (drop_through 10 left))
 
--- the input has more bytes than a number can count
+-- if the bytes of the input are known, there are at least 2^64 - 2 of them
 abbrev pub IsEndless : Option (List ℕ) → Type 0
 IsEndless None = ⊤
 IsEndless (Some input) = 2 ^ 64 - 2 ≤ length input

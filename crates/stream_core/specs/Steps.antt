@@ -8,7 +8,7 @@ pub record Steps : Type 0 where
   pub calls : ℕ
   pub failed : ℕ
 
--- a call failed if and only if the result is a read fault, and then only one: it wasn't tried again
+-- one more call failed if the result is a read fault, and none if it is anything else
 abbrev pub FailsAs : {X : Type 0} → Result X InputFault → Steps → Steps → Type 0
 FailsAs (Ok read) old new = new.failed ≡ old.failed
 FailsAs (Err faults.ReadFault) old new = new.failed ≡ old.failed + 1

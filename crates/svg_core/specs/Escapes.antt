@@ -14,7 +14,7 @@ is_special c = (c == 34) || (c == 38) || (c == 39) || (c == 60) || (c == 62)
 abbrev pub is_plain : ℕ → Bool
 is_plain c = ((c == 10) || is_printed c) && not (is_special c)
 
--- what stands for another character: its name, or `?` if it has none
+-- what stands for any other byte: the name of its character, or `?` if it has none
 abbrev pub stand_in : ℕ → List ℕ
 stand_in c =
     if c == 34 then codes "&quot;"
@@ -27,6 +27,6 @@ stand_in c =
 abbrev pub escape : ℕ → List ℕ
 escape c = if is_plain c then c ∷ [] else stand_in c
 
--- each character as it stands in XML
+-- the text as it stands in XML, byte by byte
 unfoldable pub escaped : List ℕ → List ℕ
 escaped text = flat_map escape text

@@ -5,7 +5,7 @@ use Rattle.std.specs.Str.{bytes_eq}
 use Rattle.svg_core.specs.Escapes.{is_plain}
 use Rattle.svg_core.specs.Trees.{Attribute, Tree, start_text, end_text, element, have_names, is_name, is_named, text_of}
 
--- the five names that need no declaration
+-- whether this is one of the five names of characters that XML has without a declaration
 abbrev pub is_entity : List ℕ → Bool
 is_entity name = list_any (bytes_eq name) (codes "quot" ∷ codes "amp" ∷ codes "apos" ∷ codes "lt" ∷ codes "gt" ∷ [])
 
@@ -38,7 +38,7 @@ pub record IsDocument (text : List ℕ) : Type 0 where
   pub held : IsContent content
   pub spells : text ≡ start_text tag attributes ++ content ++ end_text tag
 
--- the text of an element is a document, whatever its texts and values are
+-- the text of an element in which tags and attributes have names is a document, whatever its texts and values are
 abbrev pub DocumentLaw : Type 0
 DocumentLaw =
     (tag : List ℕ) (attributes : List Attribute) (children : Tree) → is_named (element tag attributes children) ≡ true →

@@ -79,7 +79,7 @@ are_names names = list_all is_name names && are_different names
 abbrev pub have_names : List Attribute → Bool
 have_names attributes = are_names (map (λ a. a.name) attributes)
 
--- whether tags and attributes have names
+-- whether each tag is a name, and the attributes of each element have names, no two of them the same
 unfoldable pub is_named : Tree → Bool
 is_named Nothing = true
 is_named (Text text more) = is_named more

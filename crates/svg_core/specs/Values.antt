@@ -1,4 +1,4 @@
--- What clauses see of attributes as they are handed over.
+-- What a contract sees of attributes: each with its name, and with its value as a text.
 use Rattle.std.specs.Prelude.{ℕ, List, map, decimal}
 use Rattle.svg_core.specs.Trees.{Attribute}
 use Rattle.svg_core.specs.declared.attribute.Value.{Value}
