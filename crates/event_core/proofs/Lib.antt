@@ -4,3 +4,4 @@ pub mod Steps
 pub mod Events
 pub mod Shape
 pub mod Again
+pub mod Fronts

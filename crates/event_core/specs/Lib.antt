@@ -1,3 +1,4 @@
 pub mod Format
 pub mod Decoding
 pub mod Told
+pub mod Fronts

@@ -9,7 +9,7 @@ use json_core::{Unread, ends_at, number_in, text_in};
 use serde_json::Value;
 
 /// The fault with this number in a session, among those that are recorded and have no fields; `None` for other numbers.
-fn fault_of(code: u64) -> Option<Fault>
+pub(crate) fn fault_of(code: u64) -> Option<Fault>
     ensures { result ≡ fault_of code }
 {
     match code {

@@ -18,11 +18,11 @@ use std::alloc::Allocator;
 
 /// The presence that a join or an update names.
 #[derive(Drop)]
-struct Presence<A: Allocator> {
-    pid: u64,
-    topic: Word<A>,
-    key: Word<A>,
-    metadata: Word<A>,
+pub(crate) struct Presence<A: Allocator> {
+    pub(crate) pid: u64,
+    pub(crate) topic: Word<A>,
+    pub(crate) key: Word<A>,
+    pub(crate) metadata: Word<A>,
 }
 
 /// The process, topic, key and metadata behind the verb; `Shape` unless just these follow, each in its form.
