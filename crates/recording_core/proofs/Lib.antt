@@ -5,3 +5,7 @@ pub mod Replayed
 pub mod Heads
 pub mod Drafting
 pub mod Plain
+pub mod Again
+pub mod Shape
+pub mod Scanned
+pub mod LineFeed

@@ -71,7 +71,7 @@ front_all f xs i before few front = front ∙ ap (map f) (take_all i xs few)
 
 -- what holds of each of a front and of one more
 
-all_push : {A : Type 0} (P : A → Type 0) (xs : List A) (x : A) → AllByRecursion P xs → P x → AllByRecursion P (xs ++ x ∷ [])
+pub all_push : {A : Type 0} (P : A → Type 0) (xs : List A) (x : A) → AllByRecursion P xs → P x → AllByRecursion P (xs ++ x ∷ [])
 all_push P [] x each here = (here, tt)
 all_push P (y ∷ ys) x each here = (each.0, all_push P ys x each.1 here)
 

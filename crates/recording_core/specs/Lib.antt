@@ -4,3 +4,4 @@ pub mod Versions
 pub mod Sessions
 pub mod Drafts
 pub mod Recordings
+pub mod Scanned

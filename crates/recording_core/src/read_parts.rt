@@ -2,7 +2,8 @@
 ghost use Rattle.std.specs.Prelude.{◌≡◌, map};
 ghost use Rattle.serde_json.specs.View.{view, items_view, members_view};
 ghost use Rattle.json_core.specs.Decoded.{Gives};
-ghost use Rattle.recording_core.specs.Decoding.{limits_at, texts_of, names_at, are_keys, values_at, parts_at, version_of};
+ghost use Rattle.bench_core.specs.NameList.{names_of};
+ghost use Rattle.recording_core.specs.Decoding.{if_ok, limits_at, texts_of, names_at, are_keys, values_at, parts_at, version_of};
 
 use bench_core::{Limits, Names, NamesFault};
 use json_core::{Unread, ends_at, number_in};
@@ -42,6 +43,20 @@ fn texts_of(heap: Global, values: &[Value]) -> Result<Vec<&str>, Unread>
     Ok(texts)
 }
 
+/// The names with these texts; `Shape` if a bench can't have them.
+pub(crate) fn names_of<'a, B: Allocator>(
+    alloc: &'a B,
+    texts: &[&str],
+) -> Result<Names<&'a B>, Unread>
+    ensures { Gives (λ names. names) result (if_ok (names_of (map (λ text. text.now) texts.now))) }
+{
+    match Names::new(alloc, texts) {
+        Ok(names) => Ok(names),
+        Err(NamesFault::OutOfMemory) => Err(Unread::Memory),
+        Err(_) => Err(Unread::Shape),
+    }
+}
+
 /// The names that these values spell; `Shape` if one of them isn't a text, or a bench can't have these names.
 fn names_at<'a, B: Allocator>(
     heap: Global,
@@ -51,11 +66,7 @@ fn names_at<'a, B: Allocator>(
     ensures { Gives (λ names. names) result (names_at (items_view values.now)) }
 {
     let texts = texts_of(heap, values)?;
-    match Names::new(alloc, texts.as_slice()) {
-        Ok(names) => Ok(names),
-        Err(NamesFault::OutOfMemory) => Err(Unread::Memory),
-        Err(_) => Err(Unread::Shape),
-    }
+    names_of(alloc, texts.as_slice())
 }
 
 /// Whether these are the keys of a head, in the rising order in which a map gives them.

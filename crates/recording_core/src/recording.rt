@@ -11,6 +11,7 @@ ghost use Rattle.recording_core.specs.Versions.{number_of};
 use crate::acts::Acts;
 use crate::draft::{Draft, draft_of};
 use crate::read_parts::{parts_at, version_of};
+use crate::scan::scanned;
 use crate::session_fault::SessionFault;
 use crate::version::Version;
 use bench_core::{Limits, Names};
@@ -57,24 +58,34 @@ fn recording_of<'a, B: Allocator>(
     }
 }
 
-/// Reads the text in these bytes; `NotJson` if they aren't JSON, or nest too deep.
+/// Reads the text; `NotJson` if it isn't JSON, or nests too deep.
 fn read<'a, B: Allocator>(
     heap: Global,
     alloc: &'a B,
-    bytes: &[u8],
+    text: &str,
 ) -> Result<Draft<&'a B>, SessionFault>
-    ensures ok { IfOk result (λ x. (d : Data) × IsJson bytes.now d × IsDraft d (view x.head) x.acts.events.items x.acts.is_cut) }
-    ensures err { IfErr result (λ e. (e ≡ SessionFault.OutOfMemory)
-        ⊎ ((e ≡ SessionFault.NotJson) × (IsUtf8 bytes.now → read bytes.now ≡ None))) }
+    ensures ok { IfOk result (λ x. (d : Data) × (read text.now ≡ Some d) × IsDraft d (view x.head) x.acts.events.items x.acts.is_cut) }
+    ensures err { IfErr result (λ e. (e ≡ SessionFault.OutOfMemory) ⊎ ((e ≡ SessionFault.NotJson) × (read text.now ≡ None))) }
 {
-    let Ok(text) = std::str::from_utf8(bytes) else {
-        return Err(SessionFault::NotJson);
-    };
     match draft_of(heap, alloc, text) {
         Ok(draft) => Ok(draft),
         Err(Unread::Memory) => Err(SessionFault::OutOfMemory),
         Err(Unread::Shape) => Err(SessionFault::NotJson),
     }
+}
+
+/// Like `read_session`, but of a text, value by value.
+fn read_values<'a, B: Allocator>(
+    heap: Global,
+    alloc: &'a B,
+    text: &str,
+) -> Result<Recording<&'a B>, SessionFault>
+    ensures recording { IfOk result (λ r. IsUtf8 text.now → IsRecording text.now (number_of r.version)
+        (record { limits = r.limits; names = r.names }) r.acts.events.items r.acts.is_cut) }
+    ensures refused { IfErr result (λ fault. IsUtf8 text.now → Refuses text.now fault) }
+{
+    let draft = read(heap, alloc, text)?;
+    recording_of(heap, alloc, draft)
 }
 
 /// Reads what the text of a session says, of either version, before its calls are asked. Refuses, as `load` of
@@ -92,6 +103,12 @@ pub fn read_session<'a, B: Allocator>(
         (record { limits = r.limits; names = r.names }) r.acts.events.items r.acts.is_cut) }
     ensures refused { IfErr result (Refuses bytes.now) }
 {
-    let draft = read(heap, alloc, bytes)?;
-    recording_of(heap, alloc, draft)
+    let Ok(text) = std::str::from_utf8(bytes) else {
+        return Err(SessionFault::NotJson);
+    };
+    match scanned(heap, alloc, text) {
+        Ok(recording) => Ok(recording),
+        Err(Unread::Memory) => Err(SessionFault::OutOfMemory),
+        Err(Unread::Shape) => read_values(heap, alloc, text),
+    }
 }

@@ -1,4 +1,4 @@
--- A saved event is read as that event, and a saved session as its parts.
+-- A saved event is read as that event.
 use Rattle.std.proofs.Common.{◌≡◌, List, [], ◌∷◌, map, true, Some, Ok, refl, ap, ◌∙◌}
 use Rattle.std.specs.Prelude.{option_and_then}
 use Rattle.std.proofs.lemmas.Bool.{le-leb}
@@ -25,34 +25,3 @@ all_told (e ∷ es) = (refl, all_told es)
 
 pub event_in_again : (e : Event) → IsTold e → event_in 2 (event_json e) ≡ Some e
 event_in_again e told = told_event 2 (event_json e) e (event_again e told) refl
-
-texts_again : (texts : Texts) → texts_of (items_of (map string texts)) ≡ Some texts
-texts_again [] = refl
-texts_again (text ∷ texts) = ap (λ o. o >>= λ rest. Some (text ∷ rest)) (texts_again texts)
-
-names_at_again : (names : Texts) → names_of names ≡ Ok names → names_at (items_of (map string names)) ≡ Some names
-names_at_again names is = ap (option_and_then (λ texts. if_ok (names_of texts))) (texts_again names) ∙ ap if_ok is
-
-are_in_range : (l : Limits) → AreLimits l → are_limits l ≡ true
-are_in_range l r = rw (
-  le-leb 1 l.acts r.acts_some,
-  le-leb l.acts 1000000 r.acts_few,
-  le-leb 1 l.entries r.entries_some,
-  le-leb l.entries 100000 r.entries_few,
-  le-leb 1 l.clock r.clock_some,
-  le-leb l.clock 1000000000 r.clock_few,
-  le-leb 1 l.messages r.messages_some,
-  le-leb l.messages 100000 r.messages_few,
-) refl
-
-limits_again : (l : Limits) → AreLimits l → limits_at (limits_json l) ≡ Some l
-unfolding limits_at
-limits_again l r = rw (are_in_range l r) refl
-
-abbrev pub parts : Texts → Limits → Parts
-parts names limits = record { limits = limits; names = names }
-
-pub parts_again : (names : Texts) (limits : Limits) (events : List Event) → names_of names ≡ Ok names → AreLimits limits →
-    parts_at (session 2 names limits events) ≡ Some (parts names limits)
-unfolding parts_at values_at
-parts_again names limits events is within = rw (names_at_again names is, limits_again limits within) refl

@@ -12,7 +12,8 @@ use Rattle.recording_core.specs.Decoding.{Parts, version_of, parts_at, acts_of}
 use Rattle.recording_core.specs.Versions.{event_in}
 use Rattle.event_core.specs.Told.{IsTold}
 use Rattle.recording_core.specs.Sessions.{with_event, RecordsNext, Reads, Steps, Faults, data_of, first_bench, HasHead, IsJson, LoadsAs, IsSaved, ComesBack}
-use Rattle.session_core.proofs.Again.{event_in_again, parts, parts_again}
+use Rattle.session_core.proofs.Again.{event_in_again}
+use Rattle.recording_core.proofs.Again.{parts, parts_again}
 use Rattle.recording_core.proofs.Replayed.{data_of-items_of}
 
 -- of two events that a value is read as, each is the other
@@ -63,7 +64,7 @@ module _ (bytes : List ℕ) (m : Machine) (saved : IsSaved bytes m) (d : Data) (
   version_is = ap version_of d_is
 
   parts_is : parts_at d ≡ Some (parts m.names m.limits)
-  parts_is = ap parts_at d_is ∙ parts_again m.names m.limits m.state.history saved.names saved.limits
+  parts_is = ap parts_at d_is ∙ parts_again 2 m.names m.names m.limits m.state.history saved.names saved.limits
 
   one_parts : (p : Parts) → parts_at d ≡ Some p → p ≡ parts m.names m.limits
   one_parts p is = let same = sym is ∙ parts_is in cc

@@ -1,4 +1,3 @@
-pub mod Shape
 pub mod Again
 pub mod Asked
 pub mod ComesBack

@@ -6,7 +6,7 @@ use Rattle.serde_json.specs.Written.{compact_text, has_float}
 use Rattle.bench_core.specs.Machine.{config_of, opening_state}
 use Rattle.bench_core.specs.NameList.{names_of}
 use Rattle.recording_core.specs.Format.{session}
-use Rattle.session_core.proofs.Shape.{session_no_float, session_depth}
+use Rattle.recording_core.proofs.Shape.{session_no_float, session_depth}
 use Rattle.session_core.proofs.Again.{all_told}
 use Rattle.session_core.proofs.Told.{told}
 use Rattle.session_core.proofs.saving.save.Goals as goal
