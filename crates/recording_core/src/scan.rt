@@ -159,5 +159,8 @@ pub(crate) fn scanned<'a, B: Allocator>(
     ensures { IfOk result (λ r. IsUtf8 text.now → IsRecording text.now (number_of r.version)
         (record { limits = r.limits; names = r.names }) r.acts.events.items r.acts.is_cut) }
 {
+    if text.contains('\\') {
+        return Err(Unread::Shape);
+    }
     scanned_line(heap, alloc, without_line_feed(text))
 }
