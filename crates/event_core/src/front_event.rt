@@ -1,6 +1,5 @@
 //! Reads a recorded call off the front of compact JSON, as `save` of `session_core` writes it, without a JSON value.
-ghost use Rattle.std.specs.Prelude.{◌≡◌, ◌∷◌, [], IfOk};
-ghost use Rattle.serde_json.specs.Data.{string};
+ghost use Rattle.std.specs.Prelude.{◌∷◌, [], IfOk};
 ghost use Rattle.bench_core.specs.Acts.{plain_act};
 ghost use Rattle.event_core.specs.Format.{act_json, code_of, event_json, fault_rest, reply_json, whole};
 ghost use Rattle.json_core.specs.Compact.{AreLast, IsFront};
@@ -10,22 +9,23 @@ use crate::front_operands::{next_node, next_whole, node_front};
 use crate::front_step::step_front;
 use crate::read_reply::fault_of;
 use bench_core::{Act, Event, Fault, Reply};
-use json_core::{Unread, behind, string_front};
+use json_core::{Unread, behind, plain_front};
 use std::alloc::Allocator;
 
 /// The act that the text begins with, and what follows.
 fn act_front<'a, 't, B: Allocator>(
     alloc: &'a B,
+    read: &mut String,
     text: &'t str,
 ) -> Result<(Act<&'a B>, &'t str), Unread>
     ensures front { IfOk result (λ front. IsFront text.now (act_json (plain_act front.0)) front.1.now) }
     ensures told { IfOk result (λ front. IsAction (plain_act front.0)) }
 {
-    let (word, behind_word) = string_front(behind(text, "[")?)?;
+    let (word, behind_word) = plain_front(behind(text, "[")?)?;
     match word {
         "do" => {
-            let (verb, behind_verb) = string_front(behind(behind_word, ",")?)?;
-            let (step, rest) = step_front(alloc, verb, behind_verb)?;
+            let (verb, behind_verb) = plain_front(behind(behind_word, ",")?)?;
+            let (step, rest) = step_front(alloc, read, verb, behind_verb)?;
             Ok((Act::Do(step), rest))
         }
         "undo" => {
@@ -69,7 +69,7 @@ fn reply_front(text: &str) -> Result<(Reply, &str), Unread>
     ensures front { IfOk result (λ front. IsFront text.now (reply_json front.0) front.1.now) }
     ensures recorded { IfOk result (λ front. IsRecordedReply front.0) }
 {
-    let (word, behind_word) = string_front(behind(text, "[")?)?;
+    let (word, behind_word) = plain_front(behind(text, "[")?)?;
     match word {
         "ok" => {
             let (number, rest) = counted_front(behind_word)?;
@@ -96,18 +96,19 @@ fn reply_end(text: &str) -> Result<(Reply, &str), Unread>
     Ok((reply, behind(behind_reply, "]")?))
 }
 
-/// The recorded call that the text begins with, and what follows. `Shape` unless the call's compact JSON stands there,
-/// with no escape in a word: then only `event_at` of its value tells what it says. The words of the call take their
-/// memory from `alloc`.
+/// The recorded call that the text begins with, and what follows. `Shape` unless the call's compact JSON stands there.
+/// The words of the call take their memory from `alloc`; each is read into `read` first, without its escapes, so what
+/// stands there is lost.
 pub fn event_front<'a, 't, B: Allocator>(
     alloc: &'a B,
+    read: &mut String,
     text: &'t str,
 ) -> Result<(Event<&'a B>, &'t str), Unread>
     ensures front { IfOk result (λ front. IsFront text.now (event_json front.0) front.1.now) }
     ensures told { IfOk result (λ front. IsTold front.0) }
 {
     let (actor, behind_actor) = node_front(behind(text, "[")?)?;
-    let (act, behind_act) = act_front(alloc, behind(behind_actor, ",")?)?;
+    let (act, behind_act) = act_front(alloc, read, behind(behind_actor, ",")?)?;
     let (reply, rest) = match reply_end(behind_act) {
         Ok(found) => found,
         Err(fault) => {

@@ -39,16 +39,8 @@ pub(crate) fn next_whole(text: &str) -> Result<(u64, &str), Unread>
     whole_front(number)
 }
 
-/// The string behind a comma, and what follows.
-pub(crate) fn next_string(text: &str) -> Result<(&str, &str), Unread>
-    ensures { IfOk result (λ front. IsNext text.now (string front.0.now) front.1.now) }
-{
-    let string = behind(text, ",")?;
-    string_front(string)
-}
-
 /// The word with this text; `Shape` if it is none.
-pub(crate) fn word_of<'a, B: Allocator>(alloc: &'a B, text: &str) -> Result<Word<&'a B>, Unread>
+fn word_of<'a, B: Allocator>(alloc: &'a B, text: &str) -> Result<Word<&'a B>, Unread>
     ensures { IfOk result (λ word. (word ≡ text.now) × (is_word text.now ≡ true)) }
 {
     match Word::new(alloc, text) {
@@ -56,4 +48,17 @@ pub(crate) fn word_of<'a, B: Allocator>(alloc: &'a B, text: &str) -> Result<Word
         Err(WordFault::BadWord) => Err(Unread::Shape),
         Err(WordFault::OutOfMemory) => Err(Unread::Memory),
     }
+}
+
+/// The word behind a comma, and what follows. Its string is read into `read`.
+pub(crate) fn next_word<'a, 't, B: Allocator>(
+    alloc: &'a B,
+    read: &mut String,
+    text: &'t str,
+) -> Result<(Word<&'a B>, &'t str), Unread>
+    ensures next { IfOk result (λ front. IsNext text.now (string front.0) front.1.now) }
+    ensures word { IfOk result (λ front. is_word front.0 ≡ true) }
+{
+    let rest = string_front(read, behind(text, ",")?)?;
+    Ok((word_of(alloc, read.as_str())?, rest))
 }

@@ -1,60 +1,45 @@
 //! Reads a step off the front of compact JSON, from behind its verb.
-ghost use Rattle.std.specs.Prelude.{◌≡◌, ◌++◌, ◌∷◌, [], IfOk, codes, false, map, nat_lt, true};
+ghost use Rattle.std.specs.Prelude.{◌≡◌, ◌∷◌, [], IfOk, codes, map, nat_lt, true};
 ghost use Rattle.serde_json.specs.Data.{string};
-ghost use Rattle.serde_json.specs.View.{items_of};
-ghost use Rattle.serde_json.specs.Written.{items_text};
+ghost use Rattle.payload_core.specs.Words.{is_word};
 ghost use Rattle.node_core.specs.Operations.{plain};
 ghost use Rattle.event_core.specs.Format.{whole, list, numbers_of};
 ghost use Rattle.event_core.specs.Fronts.{IsAsked};
 ghost use Rattle.json_core.specs.Compact.{AreLast, IsFront};
 ghost use Rattle.event_core.specs.Told.{IsPresence};
 
-use crate::front_operands::{next_node, next_string, next_whole, word_of};
+use crate::front_operands::{next_node, next_whole, next_word};
 use crate::read_step::Presence;
 use bench_core::Step;
 use dots_core::{MOST_NAMES, NameSet};
 use json_core::{Unread, behind, whole_front};
+use payload_core::Word;
 use std::alloc::Allocator;
 
-/// The presence with these words; `Shape` if one of them is none.
-fn presence_of<'a, B: Allocator>(
+/// The last word of a call, and what follows the call.
+fn last_word<'a, 't, B: Allocator>(
     alloc: &'a B,
-    pid: u64,
-    topic: &str,
-    key: &str,
-    metadata: &str,
-) -> Result<Presence<&'a B>, Unread>
-    ensures is { IfOk result (λ p. (p.pid ≡ pid) × (p.topic ≡ topic.now) × (p.key ≡ key.now) × (p.metadata ≡ metadata.now)) }
-    ensures words { IfOk result (λ p. IsPresence (record { pid = p.pid; topic = p.topic; key = p.key; metadata = p.metadata })) }
+    read: &mut String,
+    text: &'t str,
+) -> Result<(Word<&'a B>, &'t str), Unread>
+    ensures last { IfOk result (λ front. AreLast text.now (string front.0 ∷ []) front.1.now) }
+    ensures word { IfOk result (λ front. is_word front.0 ≡ true) }
 {
-    let topic = word_of(alloc, topic)?;
-    let key = match word_of(alloc, key) {
-        Ok(key) => key,
+    let (word, behind_word) = next_word(alloc, read, text)?;
+    match behind(behind_word, "]") {
+        Ok(rest) => Ok((word, rest)),
         Err(fault) => {
             // form: drop before exit
-            drop(topic);
-            return Err(fault);
+            drop(word);
+            Err(fault)
         }
-    };
-    let metadata = match word_of(alloc, metadata) {
-        Ok(metadata) => metadata,
-        Err(fault) => {
-            drop(topic);
-            drop(key);
-            return Err(fault);
-        }
-    };
-    Ok(Presence {
-        pid,
-        topic,
-        key,
-        metadata,
-    })
+    }
 }
 
 /// The presence that a join or an update names, and what follows the call.
 fn presence_front<'a, 't, B: Allocator>(
     alloc: &'a B,
+    read: &mut String,
     text: &'t str,
 ) -> Result<(Presence<&'a B>, &'t str), Unread>
     ensures last { IfOk result (λ front. AreLast text.now
@@ -63,20 +48,42 @@ fn presence_front<'a, 't, B: Allocator>(
         IsPresence (record { pid = front.0.pid; topic = front.0.topic; key = front.0.key; metadata = front.0.metadata })) }
 {
     let (pid, behind_pid) = next_whole(text)?;
-    let (topic, behind_topic) = next_string(behind_pid)?;
-    let (key, behind_key) = next_string(behind_topic)?;
-    let (metadata, behind_metadata) = next_string(behind_key)?;
-    let rest = behind(behind_metadata, "]")?;
-    Ok((presence_of(alloc, pid, topic, key, metadata)?, rest))
+    let (topic, behind_topic) = next_word(alloc, read, behind_pid)?;
+    let (key, behind_key) = match next_word(alloc, read, behind_topic) {
+        Ok(found) => found,
+        Err(fault) => {
+            // form: drop before exit
+            drop(topic);
+            return Err(fault);
+        }
+    };
+    let (metadata, rest) = match last_word(alloc, read, behind_key) {
+        Ok(found) => found,
+        Err(fault) => {
+            drop(topic);
+            drop(key);
+            return Err(fault);
+        }
+    };
+    Ok((
+        Presence {
+            pid,
+            topic,
+            key,
+            metadata,
+        },
+        rest,
+    ))
 }
 
 fn join_front<'a, 't, B: Allocator>(
     alloc: &'a B,
+    read: &mut String,
     text: &'t str,
 ) -> Result<(Step<&'a B>, &'t str), Unread>
     ensures { IfOk result (λ front. IsAsked (codes "join") text.now (plain front.0) front.1.now) }
 {
-    let (presence, rest) = presence_front(alloc, text)?;
+    let (presence, rest) = presence_front(alloc, read, text)?;
     let Presence {
         pid,
         topic,
@@ -96,11 +103,12 @@ fn join_front<'a, 't, B: Allocator>(
 
 fn update_front<'a, 't, B: Allocator>(
     alloc: &'a B,
+    read: &mut String,
     text: &'t str,
 ) -> Result<(Step<&'a B>, &'t str), Unread>
     ensures { IfOk result (λ front. IsAsked (codes "update") text.now (plain front.0) front.1.now) }
 {
-    let (presence, rest) = presence_front(alloc, text)?;
+    let (presence, rest) = presence_front(alloc, read, text)?;
     let Presence {
         pid,
         topic,
@@ -120,17 +128,21 @@ fn update_front<'a, 't, B: Allocator>(
 
 fn leave_front<'a, 't, B: Allocator>(
     alloc: &'a B,
+    read: &mut String,
     text: &'t str,
 ) -> Result<(Step<&'a B>, &'t str), Unread>
     ensures { IfOk result (λ front. IsAsked (codes "leave") text.now (plain front.0) front.1.now) }
 {
     let (pid, behind_pid) = next_whole(text)?;
-    let (topic, behind_topic) = next_string(behind_pid)?;
-    let (key, behind_key) = next_string(behind_topic)?;
-    let rest = behind(behind_key, "]")?;
-    let topic = word_of(alloc, topic)?;
-    let key = word_of(alloc, key)?;
-    Ok((Step::Leave { pid, topic, key }, rest))
+    let (topic, behind_topic) = next_word(alloc, read, behind_pid)?;
+    match last_word(alloc, read, behind_topic) {
+        Ok((key, rest)) => Ok((Step::Leave { pid, topic, key }, rest)),
+        Err(fault) => {
+            // form: drop before exit
+            drop(topic);
+            Err(fault)
+        }
+    }
 }
 
 fn leave_all_front<A: Allocator>(text: &str) -> Result<(Step<A>, &str), Unread>
@@ -254,16 +266,17 @@ fn sending_front<'t, A: Allocator>(verb: &str, text: &'t str) -> Result<(Step<A>
 /// goes on there.
 pub(crate) fn step_front<'a, 't, B: Allocator>(
     alloc: &'a B,
+    read: &mut String,
     verb: &str,
     text: &'t str,
 ) -> Result<(Step<&'a B>, &'t str), Unread>
     ensures { IfOk result (λ front. IsAsked verb.now text.now (plain front.0) front.1.now) }
 {
     match verb {
-        "join" => join_front(alloc, text),
-        "leave" => leave_front(alloc, text),
+        "join" => join_front(alloc, read, text),
+        "leave" => leave_front(alloc, read, text),
         "leaveall" => leave_all_front(text),
-        "update" => update_front(alloc, text),
+        "update" => update_front(alloc, read, text),
         _ => sending_front(verb, text),
     }
 }

@@ -1,5 +1,4 @@
 //! Reads a node's number or a word at a place of a JSON list.
-ghost use Rattle.std.specs.Prelude.{◌≡◌};
 ghost use Rattle.serde_json.specs.View.{view};
 ghost use Rattle.json_core.specs.Decoded.{Gives};
 ghost use Rattle.event_core.specs.Decoding.{node_in, word_in};

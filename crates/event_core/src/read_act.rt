@@ -1,5 +1,4 @@
 //! Reads the act that a JSON list asks for.
-ghost use Rattle.std.specs.Prelude.{◌≡◌};
 ghost use Rattle.serde_json.specs.View.{view};
 ghost use Rattle.bench_core.specs.Acts.{plain_act};
 ghost use Rattle.json_core.specs.Decoded.{Gives};

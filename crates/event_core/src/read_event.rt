@@ -1,5 +1,4 @@
 //! Reads the recorded call that a JSON list stands for: its actor, its act and its reply.
-ghost use Rattle.std.specs.Prelude.{◌≡◌};
 ghost use Rattle.serde_json.specs.View.{view};
 ghost use Rattle.json_core.specs.Decoded.{Gives};
 ghost use Rattle.event_core.specs.Decoding.{event_at};

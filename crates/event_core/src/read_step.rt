@@ -1,10 +1,9 @@
 //! Reads the step that a JSON list asks for after the word `do`.
 ghost use Rattle.std.specs.Prelude.{◌≡◌, option_map};
 ghost use Rattle.serde_json.specs.View.{view, items_view};
-ghost use Rattle.dots_core.specs.Names.{Names};
 ghost use Rattle.node_core.specs.Operations.{plain, Join, Update, Deliver, Answer, Up, Down, Permdown};
 ghost use Rattle.json_core.specs.Decoded.{Gives};
-ghost use Rattle.event_core.specs.Decoding.{presence_at, leave_at, leave_all_at, number_of, names_from, extract_at, sent_at, name_at};
+ghost use Rattle.event_core.specs.Decoding.{presence_at, leave_at, leave_all_at, names_from, extract_at, sent_at, name_at};
 ghost use Rattle.event_core.specs.Decoding.{status_at, message_at, tracking_at, step_at};
 ghost use Rattle.std.specs.FinSet as set;
 

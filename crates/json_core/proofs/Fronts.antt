@@ -1,16 +1,17 @@
 -- What stands in a text as JSON writes it.
-use Rattle.std.proofs.Common.{◌≡◌, ◌≢◌, ℕ, ◌^◌, ◌<◌, ◌≤◌, List, [], ◌∷◌, ◌++◌, Bool, true, false, ◌&&◌, ◌==◌, not, nat_le, length, get_or, take, drop, Option, Some, None, Result, Ok, Err, decimal, refl, sym, subst, ap, ap₂, ◌∙◌, arith, append_assoc, inl, inr, ◌⊎◌}
+use Rattle.std.proofs.Common.{◌≡◌, ◌≢◌, ℕ, suc, ◌+◌, ◌^◌, ◌<◌, ◌≤◌, List, [], ◌∷◌, ◌++◌, Bool, true, false, ◌&&◌, ◌==◌, not, nat_le, length, get_or, take, Option, Some, None, Result, Ok, Err, decimal, refl, sym, subst, ap, ap₂, ◌∙◌, arith, append_assoc, inl, inr, ◌⊎◌, ◌/◌, ◌%◌, nat_lt, cond, length-append}
 use Rattle.std.proofs.lemmas.Bool.{and_parts, leb-true, le-ltb, ne_eqb}
-use Rattle.std.proofs.lemmas.List.{take-append-drop}
 use Rattle.std.proofs.lemmas.Fmt.{decimal-digits_value}
 use Rattle.std.proofs.lemmas.Str.Parse.{numerals_by_value, tells_digits, parse_plain}
 use Rattle.std.specs.Prelude.{IfSome, MatchOption}
-use Rattle.std.specs.List.{list_all}
+use Rattle.std.specs.Char.{digit_char}
+use Rattle.std.specs.List.{list_all, position_or_len}
+use Rattle.std.specs.Prelude.{position}
 use Rattle.std.specs.Result.{result_ok}
 use Rattle.std.specs.Str.Pattern.{FindsTextPrefix, StripsPrefix}
 use Rattle.std.specs.Str.Parse.{AllDigits, ParsesUnsigned}
-use Rattle.json.specs.Print.{escape, escape_byte, quoted}
-use Rattle.json_core.specs.Compact.{is_plain}
+use Rattle.json.specs.Print.{escape, escape_byte, escape_letter, quoted}
+use Rattle.json_core.specs.Compact.{IsRun, is_plain}
 
 -- digits that are parsed as a whole number are what that number is written as, if no sign stands first and no zero before others
 module _ {E : Type 0} (digits : List ℕ) (n : ℕ) (some : 0 < length digits) (plus : get_or digits 0 0 ≢ 43)
@@ -58,13 +59,66 @@ plain_written (byte ∷ string) plain =
     let parts = and_parts (is_plain byte) (list_all is_plain string) plain in
     ap₂ (λ a b. a ++ b) (plain_byte byte parts.0) (plain_written string parts.1)
 
+-- what stands before the first byte that isn't plain is plain
+pub plain_first : (bytes : List ℕ) → list_all is_plain (take (position_or_len (λ byte. not (is_plain byte)) bytes) bytes) ≡ true
+plain_first [] = refl
+plain_first (byte ∷ bytes) = by (is_plain byte) (position_or_len (λ byte. not (is_plain byte)) bytes) refl (plain_first bytes)
+  where
+    by : (b : Bool) (n : ℕ) → is_plain byte ≡ b → list_all is_plain (take n bytes) ≡ true →
+        list_all is_plain (take (cond (not (not b)) (1 + n) 0) (byte ∷ bytes)) ≡ true
+    by true n is rest =
+        let more : suc n ≡ 1 + n = omega arith in
+        subst (λ k. list_all is_plain (take k (byte ∷ bytes)) ≡ true) more (ap₂ (λ a b. a && b) is rest)
+    by false n is rest = refl
+
+pub plain_before : (bytes : List ℕ) (n : ℕ) → position (λ byte. not (is_plain byte)) bytes ≡ Some n → list_all is_plain (take n bytes) ≡ true
+plain_before bytes n is = by (nat_lt (position_or_len (λ byte. not (is_plain byte)) bytes) (length bytes)) is
+  where
+    by : (b : Bool) → cond b (Some (position_or_len (λ byte. not (is_plain byte)) bytes)) None ≡ Some n → list_all is_plain (take n bytes) ≡ true
+    by true same =
+        let end : position_or_len (λ byte. not (is_plain byte)) bytes ≡ n = cc in
+        subst (λ k. list_all is_plain (take k bytes) ≡ true) end (plain_first bytes)
+    by false same = absurd cc
+
 pub stripped : {A : Type 0} (bytes : A → List ℕ) (front text : List ℕ) (none : Type 0) (rest : Option A) →
     MatchOption rest none (λ x. StripsPrefix (FindsTextPrefix front) text (bytes x)) → IfSome rest (λ x. text ≡ front ++ bytes x)
 stripped bytes front text none None cut = tt
 stripped bytes front text none (Some x) (n, is, same, len) = is.1 ∙ ap (λ l. front ++ l) (sym same)
 
-pub string_parts : (text inside string quote rest : List ℕ) (n : ℕ) → text ≡ 34 ∷ inside → string ≡ take n inside → quote ≡ drop n inside →
-    quote ≡ 34 ∷ rest → list_all is_plain string ≡ true → text ≡ quoted string ++ rest
-string_parts text inside string quote rest n opens front back closes plain =
-    opens ∙ ap (λ l. 34 ∷ l) (sym (take-append-drop n inside) ∙ ap₂ (λ a b. a ++ b) (sym front) (sym back ∙ closes)
-    ∙ ap (λ l. l ++ 34 ∷ rest) (sym (plain_written string plain)) ∙ sym (append_assoc (escape string) (34 ∷ []) rest))
+pub string_parts : (text inside string quote rest : List ℕ) → text ≡ 34 ∷ inside → inside ≡ string ++ quote → quote ≡ 34 ∷ rest →
+    list_all is_plain string ≡ true → text ≡ quoted string ++ rest
+string_parts text inside string quote rest opens parts closes plain =
+    opens ∙ ap (λ l. 34 ∷ l) (parts ∙ ap₂ (λ a b. a ++ b) (sym (plain_written string plain)) closes) ∙ sym (ap (λ l. 34 ∷ l) (append_assoc (escape string) (34 ∷ []) rest))
+
+-- a run of a string
+
+pub escaped_quote : escape (34 ∷ []) ≡ 92 ∷ 34 ∷ []
+unfolding escape_byte
+escaped_quote = refl
+
+pub escaped_backslash : escape (92 ∷ []) ≡ 92 ∷ 92 ∷ []
+unfolding escape_byte
+escaped_backslash = refl
+
+either : (b : Bool) (xs ys : List ℕ) → 0 < length xs → 0 < length ys → 0 < length (cond b xs ys)
+either true xs ys some other = some
+either false xs ys some other = other
+
+escape_some : (byte : ℕ) → 0 < length (escape_byte byte)
+unfolding escape_byte
+escape_some byte =
+    let hex = 92 ∷ 117 ∷ 48 ∷ 48 ∷ digit_char (byte / 16) ∷ digit_char (byte % 16) ∷ [] in
+    let control = nat_lt byte 32 in
+    either (nat_lt 0 (escape_letter byte)) (92 ∷ escape_letter byte ∷ []) (cond control hex (byte ∷ [])) (omega arith)
+    (either control hex (byte ∷ []) (omega arith) (omega arith))
+
+pub shorter : (text old new rest : List ℕ) → IsRun text old new rest → length rest < length text
+shorter text old new rest is = go is.run is.some is.text_is
+  where
+    go : (run : List ℕ) → 0 < length run → text ≡ escape run ++ rest → length rest < length text
+    go [] some same = absurd (omega (arith, some))
+    go (byte ∷ run) some same =
+        let more = escape_some byte in
+        let len = ap length same ∙ length-append (escape_byte byte ++ escape run) rest in
+        let first = length-append (escape_byte byte) (escape run) in
+        omega (arith, more, len, first)

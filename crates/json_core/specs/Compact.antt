@@ -1,5 +1,6 @@
 -- Compact JSON, the text of a value with no space in it, from its front on.
-use Rattle.std.specs.Prelude.{◌≡◌, ℕ, ◌<◌, ◌^◌, ◌==◌, ◌&&◌, ◌++◌, Bool, true, false, not, nat_le, List, [], ◌∷◌, ⊤}
+use Rattle.std.specs.Prelude.{◌≡◌, ℕ, ◌<◌, ◌^◌, ◌==◌, ◌&&◌, ◌++◌, Bool, true, false, not, nat_le, List, [], ◌∷◌, length, ⊤}
+use Rattle.json.specs.Print.{escape}
 use Rattle.serde_json.specs.Data.{Data, null, boolean, number, unsigned, negative, float, string, array, object, Items, no_items, item}
 use Rattle.serde_json.specs.View.{items_of}
 use Rattle.serde_json.specs.Written.{comma_if, compact_text, items_text}
@@ -7,6 +8,13 @@ use Rattle.serde_json.specs.Written.{comma_if, compact_text, items_text}
 -- whether the byte stands in a JSON string without an escape: it is no control character, no quote and no backslash
 abbrev pub is_plain : ℕ → Bool
 is_plain byte = nat_le 32 byte && not (byte == 34) && not (byte == 92)
+
+-- what is read of a string grows by a run, of which the text is the beginning, with its escapes
+pub record IsRun (text old new rest : List ℕ) : Type 0 where
+  pub run : List ℕ
+  pub some : 0 < length run
+  pub text_is : text ≡ escape run ++ rest
+  pub new_is : new ≡ old ++ run
 
 -- a value of lists, strings and whole numbers below 2^64, with no object in it
 abbrev mutual

@@ -12,7 +12,7 @@ mod items;
 mod one_value;
 mod unread;
 
-pub use compact::{behind, string_front, whole_front};
+pub use compact::{behind, plain_front, string_front, whole_front};
 pub use items::{ends_at, number_in, text_in};
 pub use one_value::{value_from, value_of};
 pub use unread::Unread;

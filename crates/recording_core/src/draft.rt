@@ -3,11 +3,11 @@ ghost use Rattle.std.specs.Prelude.{◌≡◌, ◌<◌, ◌∷◌, [], length, S
 ghost use Rattle.std.specs.Bool.{MatchBool};
 ghost use Rattle.json.specs.Json.{value};
 ghost use Rattle.json.specs.Token.{begin_object};
-ghost use Rattle.serde_json.specs.Data.{Data, Members, no_members, object};
-ghost use Rattle.serde_json.specs.Read.{read, of_json, of_members, converted};
+ghost use Rattle.serde_json.specs.Data.{Data, no_members, object};
+ghost use Rattle.serde_json.specs.Read.{read, of_json, converted};
 ghost use Rattle.serde_json.specs.View.{view, members_view};
-ghost use Rattle.recording_core.specs.Decoding.{are_acts, items_in, acts_members};
-ghost use Rattle.recording_core.specs.Drafts.{AreRead, IsDraft, emptied, emptied_at, head_members};
+ghost use Rattle.recording_core.specs.Decoding.{are_acts, items_in};
+ghost use Rattle.recording_core.specs.Drafts.{AreRead, IsDraft, emptied, emptied_at};
 ghost use Rattle.recording_core.specs.Sessions.{data_of};
 ghost use Rattle.json_core.specs.declared.unread.Unread.TheVariants.{Shape};
 

@@ -5,7 +5,7 @@ ghost use Rattle.serde_json.specs.Read.{read};
 ghost use Rattle.serde_json.specs.View.{view};
 ghost use Rattle.recording_core.specs.Drafts.{IsDraft};
 ghost use Rattle.recording_core.specs.Recordings.{IsRecording, Tells};
-ghost use Rattle.recording_core.specs.Sessions.{IsJson, IsRefused, Refuses};
+ghost use Rattle.recording_core.specs.Sessions.{IsRefused, Refuses};
 ghost use Rattle.recording_core.specs.Versions.{number_of};
 
 use crate::acts::Acts;

@@ -17,7 +17,7 @@ use crate::recording::Recording;
 use crate::version::Version;
 use bench_core::{Event, Limits, Names};
 use event_core::event_front;
-use json_core::{Unread, behind, string_front, whole_front};
+use json_core::{Unread, behind, plain_front, whole_front};
 use std::alloc::{Allocator, Global};
 
 /// The recorded calls of the list that the text begins with, and what follows the list.
@@ -30,11 +30,12 @@ fn events_front<'a, 't, B: Allocator>(
     ensures told { IfOk result (λ front. AllByRecursion IsTold front.0.items) }
 {
     let mut events = Vec::new(heap);
+    let mut read = String::new(heap);
     let mut rest = behind(text, "[")?;
     let mut comma = "";
     // form: the proof names the loop
     'events: while !rest.starts_with(']') {
-        let (event, behind_event) = event_front(alloc, behind(rest, comma)?)?;
+        let (event, behind_event) = event_front(alloc, &mut read, behind(rest, comma)?)?;
         events.push(event)?;
         rest = behind_event;
         comma = ",";
@@ -82,7 +83,7 @@ fn end_with<'a, B: Allocator>(
     let mut comma = "";
     // form: the proof names the loop
     'texts: while !rest.starts_with(']') {
-        let (string, behind_string) = string_front(behind(rest, comma)?)?;
+        let (string, behind_string) = plain_front(behind(rest, comma)?)?;
         texts.push(string)?;
         rest = behind_string;
         comma = ",";
@@ -111,7 +112,7 @@ fn end_of<'a, B: Allocator>(heap: Global, alloc: &'a B, text: &str) -> Result<En
     }
 }
 
-/// What a session's compact text says. `Shape` for any other text, and if a word in it is written with an escape.
+/// What a session's compact text says. `Shape` for any other text.
 fn scanned_line<'a, B: Allocator>(
     heap: Global,
     alloc: &'a B,
@@ -149,8 +150,8 @@ fn without_line_feed(text: &str) -> &str
     }
 }
 
-/// What a session's text says, if it is compact; a line feed may stand behind it. `Shape` for any other text, and if a
-/// word in it is written with an escape: then only a reading of its JSON values tells what it says.
+/// What a session's text says, if it is compact; a line feed may stand behind it. `Shape` for any other text: then only
+/// a reading of its JSON values tells what it says.
 pub(crate) fn scanned<'a, B: Allocator>(
     heap: Global,
     alloc: &'a B,
@@ -159,8 +160,5 @@ pub(crate) fn scanned<'a, B: Allocator>(
     ensures { IfOk result (λ r. IsUtf8 text.now → IsRecording text.now (number_of r.version)
         (record { limits = r.limits; names = r.names }) r.acts.events.items r.acts.is_cut) }
 {
-    if text.contains('\\') {
-        return Err(Unread::Shape);
-    }
     scanned_line(heap, alloc, without_line_feed(text))
 }
