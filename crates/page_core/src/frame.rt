@@ -5,7 +5,7 @@
 pub const HEAD: &str = r#"<!doctype html>
 <html lang="en">
 <meta charset="utf-8">
-<meta http-equiv="Content-Security-Policy" content="default-src 'none'; script-src 'sha256-vebYC+yjbEIPhGTVszAmu8FtaAYH5JSn3NuN+8X9urM='; style-src 'sha256-f+eXaAytge8XmyVWlhZ9rcXKyZ1noLmXSfayaIXKTFY=' 'sha256-q4MnRjbjrnzgSyy6+iBKwnSXtEkaPMSShdTCfpUVpwk='; base-uri 'none'; form-action 'none'">
+<meta http-equiv="Content-Security-Policy" content="default-src 'none'; script-src 'sha256-kvPsOGd3B3r+rak/UMN91ANMZGjFX05jUTq1iD6svCI='; style-src 'sha256-f+eXaAytge8XmyVWlhZ9rcXKyZ1noLmXSfayaIXKTFY=' 'sha256-q4MnRjbjrnzgSyy6+iBKwnSXtEkaPMSShdTCfpUVpwk='; base-uri 'none'; form-action 'none'">
 <meta name="viewport" content="width=device-width,initial-scale=1">
 <title>presence_bench</title>
 <style>"#;

@@ -11,10 +11,10 @@ const own = names || plain, N = own.length, ROW = 20, CHUNK = 20, END = Infinity
 
 const many = (k, word) => `${k} ${word}${k === 1 ? "" : "s"}`;
 
-// Escapes controls, separators of lines and the like, which would break a row or reverse its direction.
+// Escapes what would break or reverse a row.
 const safe = text => text.replace(/[\p{C}\u2028\u2029]/gu, c => `\\u{${c.codePointAt().toString(16)}}`);
 const quoted = text => safe(/^[^\s"\p{C}]+$/u.test(text) ? text : JSON.stringify(text)), nodes = own.map(quoted);
-// In a run from logs a word spells a value: a string, or `%=` and JSON, with bytes as `%XX`; cut, it ends in `~NUMBER`.
+// A word of logs spells a string, or `%=` and JSON, with bytes as `%XX`; cut, it ends in `~NUMBER`.
 const ofJson = json => json[0] === '"' ? quoted(JSON.parse(json)) : safe(json);
 const brief = (text, mark) => { const c = [...text.slice(0, 200)]; return c.length > 80 ? c.slice(0, 79).join("") + "\u2026" + mark : text; };
 function value(word) {
@@ -23,14 +23,12 @@ function value(word) {
   return k >= 0 ? brief(ofJson(cut[word.slice(k + 1)]), word.slice(k)) : word.startsWith("%=") ? safe(text) : quoted(text);
 }
 const process = n => pids ? brief(ofJson(pids[n]), "#" + n) : n;
-// A line with the nodes' own names and the values.
 function spoken(line) {
   const [node, verb, ...rest] = line.split(" "), named = name => nodes[plain.indexOf(name)] ?? name;
   return [named(node), verb, ...rest.map(/^(join|update|leave)/.test(verb) ? (w, k) => k ? value(w) : process(w) : named)].join(" ");
 }
 calls.forEach(c => { c.verb = c.line.split(" ")[1]; if (events) c.line = spoken(c.line); });
-// Puts the events of the logs into `calls` in their order, also those that are no calls. An event for which a full
-// bench recorded no call is left out.
+// Puts events that are no calls among `calls`; leaves out what a full bench didn't record.
 if (events) {
   const asked = calls.splice(0);
   for (const { line, time, node, online } of events) {
@@ -41,15 +39,15 @@ if (events) {
   }
 }
 
-// What is worked out once. A place is the index of a call in `calls`.
+// Worked out once. A place is an index into `calls`.
 const places = [...calls.keys()];
 const at = []; // of a step: its place
 const gone = calls.map(() => END); // by place: where it was taken back
-const presences = []; // as they were made: [step, node, clock, process, topic, key, metadata]
+const presences = []; // [step, node, clock, process, topic, key, metadata]
 const hops = []; // of a presence: [place, node, standing, place read]
 const listed = []; // of a presence: [place, node] where a list changed
-const told = []; // of a presence: the broadcasts of it, and of its removal
-const dots = new Map(); // of a name and a clock: the presence that has this dot now
+const told = []; // of a presence: broadcasts of it, and of its removal
+const dots = new Map(); // of a name and a clock: its presence now
 const dot = (name, clock) => name + N * clock, presence = ([name, clock]) => dots.get(dot(name, clock));
 const groups = (numbers, k) => (numbers || []).flatMap((_, j, all) => j % k ? [] : [all.slice(j, j + k)]);
 const stood = (p, n, i) => hops[p].findLast(h => h[1] === n && h[0] <= i && gone[h[0]] > i); // a presence at a node, behind a place
@@ -123,7 +121,7 @@ const order = presences.map((_, p) => p).sort((p, q) => {
 const isMade = p => at[presences[p][0]] <= cur && gone[at[presences[p][0]]] > cur;
 const number = i => calls[i].step || "call " + (i + 1);
 
-// What stands at the cursor
+// At the cursor
 let cur = -1; // the last call that was made
 const mask = new Int32Array(presences.length); // of a presence: a bit for each node that lists it
 const now = opening();
@@ -206,12 +204,12 @@ function words(c) {
   return w;
 }
 
-// `shown` has the places with a row, and `line` the row of each place, or of the next place that has one.
+// the places with a row, and the row of each place or of the next with one
 let shown, line, chunks = [], arrows, marks;
 const Y = i => line[i] * ROW + ROW / 2, bottom = () => shown.length * ROW, isShown = i => shown[line[i]] === i;
 const rowOf = i => $("c" + (i + 1));
 
-// Lays paths, each with its class and its heights, into the chunks that they touch.
+// Lays paths, each with class and heights, into their chunks.
 function paint(layer, items) {
   const parts = chunks.map(() => new Map());
   for (const [cls, y1, y2, d] of items) {
@@ -243,7 +241,7 @@ function lay() {
     chunks.push(c);
   }
   $("time").append(...chunks.map(c => c.box));
-  // A message goes along the row of its send, and then down beside the lane of who takes it.
+  // along the row of its send, then down beside its taker's lane
   const most = Math.floor((pitch / 2 - 6) / 3) + 1, slots = new Map();
   const items = [["lane", 0, bottom() - 1, nodes.map((_, n) => `M${X(n)} 0V${bottom()}`).join("")]];
   arrows = [];
@@ -270,7 +268,7 @@ function lay() {
   paint("base", items);
 }
 
-// What the reader looks for: the text, the presences that it finds, and what is shown of the run
+// What is looked for: the text, the presences that it finds, what is shown
 let query = "", found = new Set(), touching = new Set(), bars = [], why = -1;
 let only = false, past = false, future = false, tab = "online";
 const usual = new Set(order.map(topicKey)).size > 40;
@@ -301,7 +299,7 @@ function look(text) {
   $("only").disabled = !found.size;
   if (!found.size) { only = false; why = -1; }
 }
-// up to the cursor: a presence's last hop at a node, and the last call that changed whether the node lists it
+// up to the cursor: its last hop at a node, the last call that changed whether the node lists it
 const hop = (p, n) => stood(p, n, cur);
 const change = (p, n) => listed[p].findLast(h => h[1] === n && h[0] <= cur)?.[0];
 function chain(p, n) {
@@ -324,7 +322,7 @@ function closure(i, ahead) {
   return set;
 }
 
-// What is told of the step at the cursor, beside the picture
+// The step, beside the picture
 const title = text => el("h3", "", text);
 function link(i) {
   const a = el("a", gone[i] < END ? "gone" : "", `${calls[i].step || "\u00b7"} ${calls[i].line}`);
@@ -418,7 +416,7 @@ function reason(p, n, left) {
   return out;
 }
 
-// The lists that stand below the picture
+// The lists below the picture
 let grid = []; // what each row stands for
 const pool = [];
 function below() {
@@ -484,7 +482,7 @@ function below() {
     path("lane", tab === "seen" ? "" : nodes.map((_, n) => down(n)).join("")), ...[...items].map(([cls, d]) => path(cls, d)), ...texts));
 }
 
-// The whole run as a small picture
+// The run as a small picture
 let still = null, due = false; // the run without the cursor
 function small(fresh) {
   if (fresh) still = null;
@@ -522,7 +520,7 @@ function shrink() {
   fill("--sel", 0, $("time").scrollTop / ROW * f, w, (h - top) / ROW * f);
 }
 
-// Shows the cursor, the call `cur`, in each part of the page; `marked` and `faded` are the elements that are so for it
+// Shows the call `cur`; `marked` and `faded` are the elements that are so for it
 let marked = [], faded = [];
 function show(scroll) {
   marked.forEach(e => { e.classList.remove("here"); e.removeAttribute("aria-selected"); });
@@ -584,7 +582,7 @@ function seek(dir, test) {
   if (dir < 0 && test === any) go(-1);
 }
 
-// The page's address behind `#`: `hash` makes it from what is shown, `show` puts it there, and `load` reads it.
+// The address behind `#`: `hash` makes it, `show` puts it there, `load` reads it.
 let timer = 0;
 function hash(i, n = why, text = query) {
   const w = words_of(text).map(encodeURIComponent), out = [calls[i]?.step ? "step=" + calls[i].step : "call=" + (i + 1)];
@@ -617,7 +615,7 @@ function press() {
   $("differ-label").hidden = tab === "seen";
   $("differ-text").textContent = tab === "online" ? "only where nodes differ" : "only with trouble";
 }
-let looked, laid; // the text and `only` that stand on the page
+let looked, laid; // those on the page
 function renew() {
   const text = $("find").value;
   if (text === looked && only === laid) return press();
@@ -656,7 +654,7 @@ const any = () => true;
 const here = c => { const n = calls[cur]?.node ?? 0; return n < 0 || c.node === n; };
 const changed = c => [...c.minus, ...c.plus].some(p => !found.size || found.has(p));
 const trouble = c => c.notes.some(x => !/undone|all/.test(x));
-// If nothing is looked for, looks for what the step changed; else asks why at the next node, or at the one before.
+// Looks for what the step changed; else asks why, at the next node or the one before.
 const ask = dir => {
   const c = calls[cur], p = c && [...c.minus, ...c.plus][0];
   if (!found.size && p !== undefined) find(topicKey(p), c.node);
@@ -697,7 +695,7 @@ $("time").onscroll = () => small();
 onresize = matchMedia("(prefers-color-scheme:dark)").onchange = () => small(true);
 onhashchange = load;
 
-// What is put on the page once, when it is opened
+// Put on the page once
 const size = [many(N, "node"), many(at.filter(i => i >= 0).length, "step"), many(presences.length, "presence"), ...events ? [many(calls.filter(c => c.online).length, "list")] : []].join(", ");
 document.title += ": " + size;
 $("sum").append(size);

@@ -6,11 +6,14 @@
 //!
 //! The modules in reading order: `cases`, the assertions of loops over tables; `scripts`, texts of faults; `streams`,
 //! how input is read and reports are written; `sessions`, how sessions are carried to the latest version; `prompted`, a
-//! prompt; `workers`, races; `program`, words that choose nothing, what the program tells, and how it ends.
+//! prompt; `workers`, races; `program`, words that choose nothing, what the program tells, and how it ends; `pages`,
+//! whether a browser runs a page.
 #![tactic(auto)]
 
 #[cfg(test)]
 mod cases;
+#[cfg(test)]
+mod pages;
 #[cfg(test)]
 mod program;
 #[cfg(test)]

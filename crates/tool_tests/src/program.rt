@@ -414,14 +414,14 @@ fn replies_of(report: &[u8]) -> usize {
 }
 
 /// What the program writes to its output. The program must end with status 0, and write nothing to its errors.
-fn printed<T: Threads + Wait + Sync + Abort>(
+pub(crate) fn printed<T: Threads + Wait + Sync + Abort>(
     heap: Global,
     words: &[&str],
     input: &[u8],
     rt: &T,
 ) -> FakeWriter {
     let mut reader = FakeReader::ending(input);
-    let rooms = [10_000, 1000];
+    let rooms = [100_000, 1000];
     let (status, writer, errors) = ended(heap, &heap, words, &mut reader, rooms, rt);
     let is_so = status == 0 && errors.taken().is_empty();
     drop(errors);
