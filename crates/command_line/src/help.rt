@@ -168,6 +168,6 @@ What a fault of a line says (line L: KIND):
   WrongCount   the line has more or fewer words than above
   BadNumber    a number has digits alone, and no zero in front
   Twice        a name stands twice, or a line of nodes or consoles does
-  NotAllowed   a console undoes, goes back and unwinds, and no more
+  NotAllowed   a console undoes, goes back and unwinds; a race takes no reads or unwinds
   NoNodes      the first line is that of the nodes; a session is for load
   TooLong      a word has 200 bytes at most, a line 4096, a script 1048576";

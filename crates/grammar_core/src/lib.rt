@@ -20,7 +20,7 @@ mod words;
 pub use cast::{Cast, unreserved};
 pub use command::Command;
 pub use fault::{FaultKind, ScriptFault};
-pub use keyword::{Keyword, keyword_of};
+pub use keyword::{Keyword, Verb, keyword_of, verb_of};
 pub use parse::{LONGEST_LINE, LONGEST_SCRIPT, Reading, parse_script, read_line};
 pub use script::{Line, Script, actors, acts, console_names, line_number, lines, node_names};
 pub use words::words_of;

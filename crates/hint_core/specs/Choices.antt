@@ -1,12 +1,12 @@
 -- Which hint a fault of a script has.
 use Rattle.std.specs.Prelude.{ℕ, ◌+◌, ◌-◌, nat_le, nat_lt, not, ◌==◌, ◌&&◌, ◌||◌, Bool, true, false, List, [], ◌∷◌, ◌++◌, length, take, drop, find}
-use Rattle.std.specs.Prelude.{codes, Option, None, Some, is_some, slice_get, unwrap_or, option_map, if◌then◌else◌}
+use Rattle.std.specs.Prelude.{codes, Option, None, Some, is_some, slice_get, slice_index, unwrap_or, option_map, if◌then◌else◌}
 use Rattle.std.specs.Str.{bytes_eq}
 use Rattle.payload_core.specs.Words.{longest_word}
 use Rattle.bench_core.specs.NameList.{Texts}
 use Rattle.bench_core.specs.NameText.{longest_name, is_name, is_name_byte}
 use Rattle.grammar_core.specs.Words.{lines_of}
-use Rattle.grammar_core.specs.Grammar.{longest_line, keyword_of}
+use Rattle.grammar_core.specs.Grammar.{longest_line, keyword_of, verb_of}
 use Rattle.grammar_core.specs.declared.fault.FaultKind.{FaultKind}
 use Rattle.grammar_core.specs.declared.fault.FaultKind.TheVariants.{NotText, TooLong, NoNodes, Twice, UnknownWord, WrongCount, NotAllowed, BadNumber}
 use Rattle.grammar_core.specs.declared.fault.FaultKind.TheVariants.{BadName, OutOfMemory}
@@ -74,14 +74,29 @@ twice lines words =
 abbrev pub is_console_verb : List ℕ → Bool
 is_console_verb verb = bytes_eq verb (codes "undo") || bytes_eq verb (codes "back") || bytes_eq verb (codes "unwind")
 
+-- an actor's line whose verb is none: the hint is about that word, which may be a keyword
+unfoldable pub no_verb : List ℕ → Option Hint
+no_verb word =
+    if is_some (keyword_of word) then about [] word (codes " stands first in its line; nobody acts there")
+    else about [] word (codes " is no verb; `presence_bench --help` has them all")
+
+-- whether the word begins a line of the prompt
+abbrev pub is_for_step : List ℕ → Bool
+is_for_step word = slice_index word 0 == 58
+
+-- a line whose first word names nobody: the hint is about that word
+unfoldable pub nobody : Bool → List ℕ → List ℕ → Option Hint
+nobody has_consoles first verb =
+    if is_some (verb_of first) then about (codes "who acts stands first in a line, and ") first (codes " behind that")
+    else (if is_for_step first then about [] first (codes " is for `step`; a script has no lines that begin with `:`")
+    else (if is_console_verb verb && not has_consoles then about (codes "nobody is named ") first (codes "; a line `consoles NAME ..` names consoles")
+    else about (codes "nobody is named ") first (codes "; the line `nodes` names the nodes")))
+
 -- UnknownWord: the hint is about the line's verb, if a node or a console has the line's first word as its name; else about that word
 unfoldable pub unknown_word : Texts → Texts → Option Hint
 unknown_word lines words =
-    if is_node lines (word_at words 0) || is_console lines (word_at words 0) then
-    about [] (word_at words 1) (codes " is no verb; `presence_bench --help` has them all")
-    else (if is_console_verb (word_at words 1) && not (is_begun (codes "consoles") lines) then
-    about (codes "nobody is named ") (word_at words 0) (codes "; a line `consoles NAME ..` names consoles")
-    else about (codes "nobody is named ") (word_at words 0) (codes "; the line `nodes` names the nodes"))
+    if is_node lines (word_at words 0) || is_console lines (word_at words 0) then no_verb (word_at words 1)
+    else nobody (is_begun (codes "consoles") lines) (word_at words 0) (word_at words 1)
 
 -- WrongCount: the hint is the form of the line
 unfoldable pub wrong_count : Texts → Option Hint

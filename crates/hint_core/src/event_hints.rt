@@ -83,7 +83,7 @@ fn kind_hint(line: u64, kind: FaultKind) -> Option<Hint<'static>>
             "its node sent that `message` before; each message of a node has a value of its own",
         )),
         FaultKind::NeverSent => Some(Hint::Plain(
-            "no line sends that message; with `--lenient` such lines are left out",
+            "no line sends that message; is it spelled as at its send? `--lenient` leaves such lines out",
         )),
         FaultKind::Circle => Some(Hint::Plain(
             "no order is possible; are each node's events in the order in which it did them?",

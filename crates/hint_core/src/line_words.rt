@@ -1,6 +1,6 @@
 //! The words of the refused line, and the names that the lines before it give. The lines before it are the first
 //! `count` lines of `bytes`.
-ghost use Rattle.std.specs.Prelude.{◌≡◌, ◌||◌, [], map, drop, take, option_copied, None, Some, slice_get, if◌then◌else◌};
+ghost use Rattle.std.specs.Prelude.{◌≡◌, ◌||◌, [], map, drop, take, option_copied, None, Some, if◌then◌else◌};
 ghost use Rattle.std.specs.List.{list_any};
 ghost use Rattle.std.specs.Str.{bytes_eq};
 ghost use Rattle.grammar_core.specs.Words.{lines_of, is_text};

@@ -1,5 +1,5 @@
 //! The hints about names. Where there is no word to show there is no hint (`None`).
-ghost use Rattle.std.specs.Prelude.{◌≡◌, option_map, not, map, find, drop, take, [], unwrap_or};
+ghost use Rattle.std.specs.Prelude.{◌≡◌, option_map, not, map, find, take, [], unwrap_or};
 ghost use Rattle.bench_core.specs.NameText.{is_name_byte};
 ghost use Rattle.grammar_core.specs.Words.{lines_of};
 ghost use Rattle.hint_core.specs.Hints.{plain_hint};

@@ -1,5 +1,5 @@
 //! The hints for lines that aren't text, or are too long.
-ghost use Rattle.std.specs.Prelude.{◌≡◌, option_map, map, find, drop, [], nat_lt, length, unwrap_or};
+ghost use Rattle.std.specs.Prelude.{◌≡◌, option_map, map, find, [], nat_lt, length, unwrap_or};
 ghost use Rattle.payload_core.specs.Words.{longest_word};
 ghost use Rattle.hint_core.specs.Hints.{plain_hint};
 ghost use Rattle.hint_core.specs.Choices.{is_text_byte, byte_text, byte_from, not_text, too_long};

@@ -3,12 +3,12 @@
 ghost use Rattle.std.specs.Prelude.{◌≡◌, option_map, map, take, is_some};
 ghost use Rattle.grammar_core.specs.Words.{lines_of};
 ghost use Rattle.hint_core.specs.Hints.{plain_hint};
-ghost use Rattle.hint_core.specs.Choices.{no_nodes, is_console_verb, unknown_word, wrong_count, not_allowed, number_place, bad_number, is_reserved};
+ghost use Rattle.hint_core.specs.Choices.{no_nodes, is_console_verb, no_verb, is_for_step, nobody, unknown_word, wrong_count, not_allowed, number_place, bad_number, is_reserved};
 
 use crate::forms::form;
 use crate::hint::{Hint, about};
 use crate::line_words::{is_begun, is_console, is_node, word_at};
-use grammar_core::keyword_of;
+use grammar_core::{keyword_of, verb_of};
 
 /// Whether the word is one of the six reserved ones, which can't be names.
 pub(crate) fn is_reserved(word: &str) -> bool
@@ -36,22 +36,48 @@ fn is_console_verb(verb: &str) -> bool
     verb == "undo" || verb == "back" || verb == "unwind"
 }
 
-/// The hint for a line whose first word names nobody, or whose second word isn't a verb. `words` are those of the line,
-/// which stands behind the first `count` lines.
-#[tactic(auto, unfolding(crate::specs::Choices::unknown_word))]
-pub(crate) fn unknown_word<'l>(bytes: &[u8], count: usize, words: &[&'l str]) -> Option<Hint<'l>>
-    ensures { option_map plain_hint result ≡ unknown_word (take count (lines_of bytes.now)) (map (λ word. word.now) words.now) }
+/// The hint for an actor's line whose second word isn't a verb.
+#[tactic(auto, unfolding(crate::specs::Choices::no_verb))]
+fn no_verb<'l>(word: &'l str) -> Option<Hint<'l>>
+    ensures { option_map plain_hint result ≡ no_verb word.now }
 {
-    let first = word_at(words, 0);
-    let verb = word_at(words, 1);
-    if is_node(bytes, count, first) || is_console(bytes, count, first) {
+    if is_reserved(word) {
+        return about("", word, " stands first in its line; nobody acts there");
+    }
+    about(
+        "",
+        word,
+        " is no verb; `presence_bench --help` has them all",
+    )
+}
+
+/// Whether a line of the prompt begins with this word.
+fn is_for_step(word: &str) -> bool
+    ensures { result ≡ is_for_step word.now }
+{
+    word.starts_with(':')
+}
+
+/// The hint for a line whose first word names nobody. `has_consoles` says whether a line before it names consoles.
+#[tactic(auto, unfolding(crate::specs::Choices::nobody))]
+fn nobody<'l>(has_consoles: bool, first: &'l str, verb: &str) -> Option<Hint<'l>>
+    ensures { option_map plain_hint result ≡ nobody has_consoles first.now verb.now }
+{
+    if verb_of(first).is_some() {
         return about(
-            "",
-            verb,
-            " is no verb; `presence_bench --help` has them all",
+            "who acts stands first in a line, and ",
+            first,
+            " behind that",
         );
     }
-    if is_console_verb(verb) && !is_begun(bytes, count, "consoles") {
+    if is_for_step(first) {
+        return about(
+            "",
+            first,
+            " is for `step`; a script has no lines that begin with `:`",
+        );
+    }
+    if is_console_verb(verb) && !has_consoles {
         return about(
             "nobody is named ",
             first,
@@ -63,6 +89,20 @@ pub(crate) fn unknown_word<'l>(bytes: &[u8], count: usize, words: &[&'l str]) ->
         first,
         "; the line `nodes` names the nodes",
     )
+}
+
+/// The hint for a line whose first word names nobody, or whose second word isn't a verb. `words` are those of the line,
+/// which stands behind the first `count` lines.
+#[tactic(auto, unfolding(crate::specs::Choices::unknown_word))]
+pub(crate) fn unknown_word<'l>(bytes: &[u8], count: usize, words: &[&'l str]) -> Option<Hint<'l>>
+    ensures { option_map plain_hint result ≡ unknown_word (take count (lines_of bytes.now)) (map (λ word. word.now) words.now) }
+{
+    let first = word_at(words, 0);
+    let verb = word_at(words, 1);
+    if is_node(bytes, count, first) || is_console(bytes, count, first) {
+        return no_verb(verb);
+    }
+    nobody(is_begun(bytes, count, "consoles"), first, verb)
 }
 
 /// The hint for a line with too few words, or too many: the form of the line.

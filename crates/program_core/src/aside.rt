@@ -1,10 +1,36 @@
-//! `Aside`: what to print about a refused input after the line of its fault.
+//! `Aside`: what to print about a refused input or question after the line of its fault.
+use crate::fault::ProgramFault;
+use explain_core::AskFault;
+use explore_report::ReportFault;
 use hint_core::{import_hint, script_hint, session_hint};
 use import_core::ImportFault;
+use picture_core::DrawFault;
 use script_core::ScriptFault;
 use session_core::SessionFault;
 use std::alloc::Global;
 use std::io::Write;
+use whatif_report::WhatifFault;
+
+const NO_SUCH_NODE: &str =
+    "hint: the line `nodes` of a script names the nodes; a session has their names at `nodes`\n";
+
+const NO_WORD: &str =
+    "hint: a word has 1 to 200 bytes of graphic ASCII; `import` writes a space as `%20`\n";
+
+/// The hint behind a fault of a question about a run, as a line with its line feed; empty if the fault has none.
+fn hint_of(fault: ProgramFault) -> &'static str {
+    match fault {
+        ProgramFault::Explain(AskFault::NoSuchNode)
+        | ProgramFault::Whatif(WhatifFault::NoSuchNode)
+        | ProgramFault::Explore(ReportFault::NoSuchNode)
+        | ProgramFault::Draw(DrawFault::NoSuchNode) => NO_SUCH_NODE,
+        ProgramFault::Explain(AskFault::NoWord)
+        | ProgramFault::Whatif(WhatifFault::NoWord)
+        | ProgramFault::Explore(ReportFault::NoWord)
+        | ProgramFault::Draw(DrawFault::NoWord) => NO_WORD,
+        _ => "",
+    }
+}
 
 /// The hint that is printed after the line of a fault; `None` if the fault has no hint, or memory for the hint was
 /// refused.
@@ -45,10 +71,11 @@ impl Aside {
         }
     }
 
-    /// Prints the hint, if there is one, as far as it can be written.
-    pub(crate) fn put<E: Write>(&self, errors: &mut E) {
-        if let Some(hint) = &self.hint {
-            let _ = errors.write_all(hint);
-        }
+    /// Prints the hint of the input, or else that of the fault, if there is one, as far as it can be written.
+    pub(crate) fn put<E: Write>(&self, fault: ProgramFault, errors: &mut E) {
+        let _ = match &self.hint {
+            Some(hint) => errors.write_all(hint),
+            None => errors.write_all(hint_of(fault).as_bytes()),
+        };
     }
 }

@@ -43,7 +43,7 @@ fn tell_fault<E: Write>(outcome: Result<(), ProgramFault>, aside: &Aside, errors
         Ok(()) | Err(ProgramFault::Differs) => {}
         Err(fault) => {
             let _ = writeln!(errors, "presence_bench: {fault}");
-            aside.put(errors);
+            aside.put(fault, errors);
         }
     }
 }
