@@ -1,5 +1,5 @@
 //! `Change`: one step that could have gone otherwise: lost, never made, moved, or made once more.
-ghost use Rattle.std.specs.Prelude.{◌≡◌, ◌≤◌, ◌+◌, ◌==◌, ◌&&◌, length, slice_range};
+ghost use Rattle.std.specs.Prelude.{◌≡◌, ◌+◌, ◌==◌, ◌&&◌};
 ghost use Rattle.node_core.specs.Operations.{plain, sends};
 ghost use Rattle.change_core.specs.Changes.{has_send, is_change, is_delivery, is_notice, may_pass, rank};
 

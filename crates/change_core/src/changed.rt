@@ -1,6 +1,6 @@
 //! The steps of a run with a change made to them, as marks, and an order of these marks.
 ghost use Rattle.std.specs.Prelude.{◌≡◌, ◌≤◌, ◌<◌, ◌+◌, ◌++◌, ℕ, IfOk, OnOk, Some, length, map, option_map, slice_get};
-ghost use Rattle.std.specs.List.{flat_map, AllByRecursion};
+ghost use Rattle.std.specs.List.{flat_map};
 ghost use Rattle.order_core.specs.Orders.{order_of};
 ghost use Rattle.change_core.specs.Changes.{changed};
 ghost use Rattle.change_core.specs.Walks.{steps_in};

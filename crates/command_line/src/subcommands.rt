@@ -2,7 +2,7 @@
 //!
 //! A function that adds to a line or a subcommand takes it as a `Built`, and passes on an `Err`. So a function that
 //! builds a line or a subcommand in several calls has one way out.
-ghost use Rattle.std.specs.Prelude.{◌≡◌, ℕ, IfOk, codes};
+ghost use Rattle.std.specs.Prelude.{IfOk};
 ghost use Rattle.clap.specs.Words.{App, Rule, new_app, with_rule, with_subcommand};
 ghost use Rattle.command_line.specs.Line.{HasRule, HasShape, about_app, app, as_rule, bare_app, draw_app, explain_app, explore_app, flag_rule, import_app, load_app, number_rule, optional_rule, page_app, play_app, question_app, race_app, step_app, strict_app, whatif_app, word_rule};
 

@@ -1,6 +1,6 @@
 //! `FewRows`: the rows that a call put into an online list, or took out of it. Most calls put in or take out one row at
 //! most.
-ghost use Rattle.std.specs.Prelude.{◌≡◌, ◌<◌, ◌⊎◌, IsSome, length, option_copied};
+ghost use Rattle.std.specs.Prelude.{◌<◌, ◌⊎◌, IsSome, length, option_copied};
 ghost use Rattle.replica_core.specs.Changes.{back, plain_change, ChangeLeadsSomewhere};
 ghost use Rattle.diff_core.specs.ChangedRows.{rows_shown};
 ghost use Rattle.diff_core.specs.Diffs.{alone};

@@ -1,6 +1,6 @@
 //! A finite set of dots, kept as a context clock and a cloud for each name.
 
-ghost use Rattle.std.specs.Prelude.{◌≡◌, ◌↔◌, ◌^◌, ◌<◌, ◌≤◌, ◌==◌, ◌&&◌, not, IsOk, IsTrue, IfOk, OnOk, OnErr, length};
+ghost use Rattle.std.specs.Prelude.{◌≡◌, ◌↔◌, ◌^◌, ◌<◌, ◌≤◌, ◌==◌, ◌&&◌, not, IsOk, IsTrue, IfOk, OnOk, OnErr};
 ghost use Rattle.std.specs.FinSet as set;
 ghost use Rattle.dots_core.specs.ClockBits.{AreBitsOf};
 ghost use Rattle.dots_core.specs.Dots.{IsFirstDot, IsValid, AreValid, of_names};

@@ -1,8 +1,8 @@
 //! Unites the parts that two sets have of one name, in time linear in the two parts. Where one has a long cloud and the
 //! other adds a few clocks, these are inserted into a copy.
 
-ghost use Rattle.std.specs.Prelude.{◌≡◌, ℕ, ◌<◌, ◌≤◌, [], ◌++◌, true, false, ◌||◌, IfOk, OnOk, MatchOption, length};
-ghost use Rattle.dots_core.specs.Clocks.{is_among, RisesAbove, IsCanonical, IsUnion, Gains, holds};
+ghost use Rattle.std.specs.Prelude.{◌≡◌, ℕ, ◌<◌, ◌≤◌, true, false, ◌||◌, IfOk, OnOk};
+ghost use Rattle.dots_core.specs.Clocks.{is_among, RisesAbove, IsCanonical, Gains};
 ghost use Rattle.dots_core.specs.Unions.{AddsOnly, AreClocks, GainsEach, HasEach, IsGrown, IsLeast, without_first};
 ghost use Rattle.dots_core.specs.Dots.{last_clock};
 

@@ -1,5 +1,5 @@
 //! Which messages are sent, and the first event that sends one again or waits for one that is never sent.
-ghost use Rattle.std.specs.Prelude.{◌≡◌, IfOk, Some, length, MatchOption, MatchResult};
+ghost use Rattle.std.specs.Prelude.{Some, length, MatchOption, MatchResult};
 ghost use Rattle.event_order.specs.Ordering.{HasMessages, IsTwiceAt, IsNeverSentAt, NoTwice, AllSent};
 ghost use Rattle.event_order.specs.Walks.{IsSentUpTo};
 

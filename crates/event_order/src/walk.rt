@@ -1,7 +1,7 @@
 //! An order while it is built: which messages were sent, and the next event of each node.
 ghost use Rattle.std.specs.Prelude.{◌≡◌, ◌≤◌, ◌<◌, ◌+◌, ◌++◌, ◌∷◌, [], IfOk, Some, length};
 ghost use Rattle.std.specs.Prelude.{ℕ, List, slice_index};
-ghost use Rattle.event_order.specs.Ordering.{HasNodes, HasMessages, CanCome, IsBegun, IsNearest, node_at};
+ghost use Rattle.event_order.specs.Ordering.{HasNodes, HasMessages, node_at};
 ghost use Rattle.event_order.specs.Walks.{IsFirstOf, IsLeastReady, IsLeast, IsWalk, IsStopped, AreHeads, is_sent, left_of};
 
 use crate::logged::Logged;

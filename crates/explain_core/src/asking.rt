@@ -1,5 +1,5 @@
 //! The explanation for a question in words.
-ghost use Rattle.std.specs.Prelude.{◌≡◌, IfErr, IfOk, string_bytes};
+ghost use Rattle.std.specs.Prelude.{IfErr, IfOk, string_bytes};
 ghost use Rattle.explain_core.specs.Questions.{IsExplanation, Refuses};
 
 use crate::ask_fault::AskFault;

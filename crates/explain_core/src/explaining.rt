@@ -1,8 +1,8 @@
 //! The text of an explanation.
-ghost use Rattle.std.specs.Prelude.{◌≡◌, ◌++◌, IfOk, OnOk, codes, length, string_bytes};
+ghost use Rattle.std.specs.Prelude.{◌≡◌, ◌++◌, IfOk, OnOk, length, string_bytes};
 ghost use Rattle.explain_core.specs.Findings.{AreStatuses};
 ghost use Rattle.std.specs.List.{flat_map};
-ghost use Rattle.explain_core.specs.Explanations.{dot_line, explanation, finding_text, found_text, head_line, labelled, left_text, making_text, making_texts, node_text, removal_text, status_text, step_line, step_line_if, step_lines, traced_text, tracked_text, verdict_text};
+ghost use Rattle.explain_core.specs.Explanations.{dot_line, explanation, finding_text, found_text, head_line, labelled, left_text, making_texts, node_text, removal_text, status_text, step_line, step_line_if, step_lines, traced_text, tracked_text, verdict_text};
 
 use crate::finding::{
     Finding, Verdict, finding_of, has_left, last_statuses, missing, status_among,

@@ -4,7 +4,7 @@ ghost use Rattle.journal_core.specs.Holdings.{kepts};
 ghost use Rattle.node_core.specs.Operations.{plain};
 ghost use Rattle.std.specs.Prelude.{None as Nothing};
 ghost use Rattle.explain_core.specs.Tracks.{stand_at};
-ghost use Rattle.explain_core.specs.Findings.{AreStatuses, chain, finding_of, found, forgotten_or, is_forgotten_at, is_link, is_missed_at, is_sent_as, is_status_of, is_up_at, is_why, last_status, missing, numbers_of, has_left};
+ghost use Rattle.explain_core.specs.Findings.{AreStatuses, chain, finding_of, found, is_forgotten_at, is_link, is_missed_at, is_sent_as, is_status_of, is_up_at, is_why, last_status, missing, numbers_of, has_left};
 
 use crate::hop::{Hop, Kind};
 use crate::standing::{Standing, standing_at};

@@ -1,10 +1,9 @@
 //! `explore`: all that the network could have made of the steps of a bench.
-ghost use Rattle.std.specs.Prelude.{◌≡◌, ◌↔◌, ◌<◌, ◌≤◌, ◌+◌, [], ◌∷◌, ℕ, List, IfOk, IfErr, IsOk, Ok, Err, OnOk, Some, length, replicate, slice_get};
+ghost use Rattle.std.specs.Prelude.{◌≡◌, ◌<◌, ◌≤◌, ◌+◌, [], ℕ, IfOk, IfErr, IsOk, Ok, Err, length, replicate};
 ghost use Rattle.replica_core.specs.Limits.{AreNodeLimits};
 ghost use Rattle.bench_core.specs.Clusters.{opening_of, Cluster as PlainCluster};
 ghost use Rattle.bench_core.specs.Limits.{node_limits};
 ghost use Rattle.bench_core.specs.Runs.{runs};
-ghost use Rattle.std.specs.List.{AllByRecursion};
 ghost use Rattle.dots_core.specs.Names.{most_names};
 ghost use Rattle.network_core.specs.Room.{made};
 ghost use Rattle.progress_core.specs.Watches.{Watched};
@@ -14,7 +13,7 @@ ghost use Rattle.explore_network.specs.Asked.{AreAsked};
 ghost use Rattle.explore_network.specs.Questions.{node_of, plain, IsThere};
 ghost use Rattle.explore_network.specs.Turns.{ranks_of, turns_of};
 ghost use Rattle.network_rules.specs.Tables.{AreAllAsked, IsClosed};
-ghost use Rattle.explore_network.specs.Walks.{AreApart, HasReason, IsOutcome, IsTold};
+ghost use Rattle.explore_network.specs.Walks.{HasReason};
 ghost use Rattle.explore_network.specs.Outcomes.{AllIsTold, BeginsWith, IsRecorded, Runs};
 
 use crate::asked::dots_of;

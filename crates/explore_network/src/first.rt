@@ -1,6 +1,6 @@
 //! The step that can come before all others that may come next, so that the walk misses no outcome if it goes on with
 //! this step alone.
-ghost use Rattle.std.specs.Prelude.{◌≡◌, ◌⊎◌, IsTrue, IfSome};
+ghost use Rattle.std.specs.Prelude.{◌⊎◌, IsTrue, IfSome};
 ghost use Rattle.explore_network.specs.Easy.{CanGoFirst, GoesFirst};
 ghost use Rattle.explore_network.specs.Plans.{IsPlan};
 ghost use Rattle.explore_network.specs.Questions.{Question as PlainQuestion};

@@ -1,5 +1,5 @@
 //! `Plan`: what all runs of the network have in common.
-ghost use Rattle.std.specs.Prelude.{◌≡◌, ◌≤◌};
+ghost use Rattle.std.specs.Prelude.{◌≡◌};
 
 use crate::bounds::Bounds;
 use bench_core::{Kept, NodeLimits};

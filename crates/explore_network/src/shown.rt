@@ -1,5 +1,5 @@
 //! Whether two clusters show the same to a question.
-ghost use Rattle.std.specs.Prelude.{◌≡◌, ◌↔◌, ◌≤◌, IfOk, IsTrue, length, map, option_map, slice_get};
+ghost use Rattle.std.specs.Prelude.{◌≡◌, ◌↔◌, ◌≤◌, IfOk, IsTrue, length, map, option_map};
 ghost use Rattle.dots_core.specs.Names.{most_names};
 ghost use Rattle.change_core.specs.Questions.{rows_in};
 ghost use Rattle.explore_network.specs.Questions.{plain, replicas_in, shown};

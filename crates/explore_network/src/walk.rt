@@ -1,16 +1,15 @@
 //! `Walk`: a depth-first walk over runs of the network that finds all their outcomes. It leaves out runs whose outcomes
 //! other runs give (see `first` and `settled`). In its functions `counts` says how many steps of each turn came, and at
 //! most `left` steps can follow.
-ghost use Rattle.std.specs.Prelude.{◌≡◌, ◌<◌, ◌≤◌, ◌+◌, ◌^◌, ◌++◌, ◌∷◌, [], ℕ, List, IfErr, IfOk, OnOk, Ok, Some, length, slice_get, true};
-ghost use Rattle.replica_core.specs.Limits.{AreNodeLimits};
+ghost use Rattle.std.specs.Prelude.{◌≡◌, ◌<◌, ◌+◌, ◌++◌, ◌∷◌, [], IfErr, IfOk, OnOk, Ok, Some, length, true};
 ghost use Rattle.bench_core.specs.Clusters.{Cluster as PlainCluster};
-ghost use Rattle.bench_core.specs.Runs.{runs, then_runs};
+ghost use Rattle.bench_core.specs.Runs.{runs};
 ghost use Rattle.network_core.specs.NetworkRuns.{IsNetworkRun};
 ghost use Rattle.progress_core.specs.Watches.{Watched};
 ghost use Rattle.explore_network.specs.Plans.{IsPlan};
 ghost use Rattle.network_rules.specs.Queries.{key_of};
 ghost use Rattle.explore_network.specs.Questions.{plain};
-ghost use Rattle.explore_network.specs.Walks.{next_in, steps_at, told_by, AllGoThrough, GoesThroughAt, AreMore, GoesThrough, HasReason, IsAt, IsBehind, IsOutcome, IsReady, IsTold, Keeps, Went};
+ghost use Rattle.explore_network.specs.Walks.{next_in, steps_at, told_by, AllGoThrough, GoesThroughAt, GoesThrough, HasReason, IsAt, IsBehind, IsOutcome, IsReady, IsTold, Keeps, Went};
 
 use crate::counts::counted;
 use crate::explore_fault::Stop;

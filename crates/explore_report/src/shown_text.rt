@@ -1,5 +1,5 @@
 //! What an outcome shows to the question.
-ghost use Rattle.std.specs.Prelude.{◌≡◌, ◌++◌, IfOk, OnOk, codes, length, option_map, string_bytes};
+ghost use Rattle.std.specs.Prelude.{◌≡◌, ◌++◌, OnOk, codes, length, option_map, string_bytes};
 ghost use Rattle.change_core.specs.Questions.{rows_in};
 ghost use Rattle.explore_network.specs.Questions.{plain};
 ghost use Rattle.report_core.specs.Rows.{row_lines};

@@ -1,5 +1,5 @@
 //! `Cast`: who may act.
-ghost use Rattle.std.specs.Prelude.{◌≡◌, ◌+◌, ◌≤◌, [], length, map, IfErr, IfOk};
+ghost use Rattle.std.specs.Prelude.{◌≡◌, ◌+◌, ◌≤◌, length, map, IfErr, IfOk};
 ghost use Rattle.grammar_core.specs.Results.{Gives};
 ghost use Rattle.grammar_core.specs.Casts.{actor_in};
 ghost use Rattle.grammar_core.specs.Grammar.{unreserved, node_names, opening, with_console, with_each, with_consoles};

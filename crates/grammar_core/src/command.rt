@@ -1,5 +1,5 @@
 //! `Command`: what one line of a script asks.
-ghost use Rattle.std.specs.Prelude.{◌≡◌, map, IsTrue};
+ghost use Rattle.std.specs.Prelude.{map, IsTrue};
 ghost use Rattle.std.specs.List.{list_all};
 ghost use Rattle.grammar_core.specs.Results.{Gives, Meets};
 ghost use Rattle.grammar_core.specs.Grammar.{keyword_of, verb_line, actor_line, journal_of, command_by};

@@ -1,5 +1,5 @@
 //! Reads a node's step from the words after its verb.
-ghost use Rattle.std.specs.Prelude.{◌≡◌, ◌<◌, map, IsTrue, IfOk};
+ghost use Rattle.std.specs.Prelude.{◌<◌, map, IsTrue, IfOk};
 ghost use Rattle.std.specs.List.{list_all};
 ghost use Rattle.dots_core.specs.Names.{most_names};
 ghost use Rattle.node_core.specs.Operations.{plain};

@@ -6,7 +6,7 @@ ghost use Rattle.serde_json.specs.View.{view, items_view};
 ghost use Rattle.node_core.specs.Operations.{plain, Answer};
 ghost use Rattle.log_core.specs.Events.{join, update, leave, deliver};
 ghost use Rattle.log_core.specs.Views.{tracked as shown_tracked, event as shown_event};
-ghost use Rattle.import_core.specs.Tables.{AllTables, Keeps, all_of, IsWordOf, IsNodeOf, IsMessageOf};
+ghost use Rattle.import_core.specs.Tables.{Keeps, all_of, IsNodeOf, IsMessageOf};
 ghost use Rattle.import_core.specs.Steps.{IsPresenceOf, IsStepOf, IsSentOf, AreNodesOf, presence_of, is_own, is_message, is_status, is_online};
 ghost use Rattle.import_core.specs.Seen.{HasTooMany, SeesNodes, message_names, names_among, status_names, step_names};
 ghost use Rattle.import_core.specs.Sights.{SeesValues, own_pids, own_words, tracked_words};

@@ -1,8 +1,8 @@
 //! `Tables`: which number stands for which text.
-ghost use Rattle.std.specs.Prelude.{◌≡◌, ◌<◌, ◌^◌, ◌++◌, ◌∷◌, [], Some, Err, IfOk, OnOk, length, string_bytes, decimal, codes};
+ghost use Rattle.std.specs.Prelude.{◌≡◌, ◌<◌, ◌∷◌, [], Err, IfOk, OnOk, length, string_bytes};
 ghost use Rattle.serde_json.specs.View.{view};
 ghost use Rattle.dots_core.specs.Names.{most_names};
-ghost use Rattle.import_core.specs.Tables.{IsTextOf, IsWordOf, IsNumberOf, IsNodeOf, IsMessageOf, Extends, Keeps, all_of, no_tables, message_text};
+ghost use Rattle.import_core.specs.Tables.{IsWordOf, IsNumberOf, IsNodeOf, IsMessageOf, Extends, Keeps, all_of, no_tables, message_text};
 ghost use Rattle.import_core.specs.Seen.{with_text};
 ghost use Rattle.import_core.specs.Sights.{SeesPid, SeesValues, SeesWord};
 

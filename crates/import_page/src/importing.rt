@@ -1,5 +1,5 @@
 //! From the bytes of logs to a bench, and to what the logs tell besides the bench's calls.
-ghost use Rattle.std.specs.Prelude.{◌≡◌, ◌<◌, ◌≤◌, ◌++◌, ℕ, List, IfOk, IfErr, OnOk, length, map, string_bytes};
+ghost use Rattle.std.specs.Prelude.{◌≡◌, ◌<◌, ◌≤◌, ℕ, List, IfOk, IfErr, length, map, string_bytes};
 ghost use Rattle.std.specs.List.{All};
 ghost use Rattle.dots_core.specs.Names.{most_names};
 ghost use Rattle.log_core.specs.Lines.{lines_of};

@@ -1,5 +1,5 @@
 //! The time of a line.
-ghost use Rattle.std.specs.Prelude.{◌≡◌, IfOk, option_map, string_bytes};
+ghost use Rattle.std.specs.Prelude.{IfOk, option_map, string_bytes};
 ghost use Rattle.serde_json.specs.Find.{as_number, as_str};
 ghost use Rattle.serde_json.specs.View.{view};
 ghost use Rattle.import_page.specs.Times.{IsTimeBy, IsTimeOf, IsTimeOn};

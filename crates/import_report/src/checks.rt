@@ -4,11 +4,10 @@ ghost use Rattle.std.specs.List.{All};
 ghost use Rattle.node_core.specs.Operations.{plain};
 ghost use Rattle.bench_core.specs.Acts.{Do};
 ghost use Rattle.report_core.specs.ActTexts.{reply_of};
-ghost use Rattle.report_core.specs.Rows.{is_no_change};
 ghost use Rattle.report_core.specs.Shown.{rows_at};
 ghost use Rattle.import_core.specs.Notes.{note_of};
 ghost use Rattle.import_report.specs.Checks.{AreChecked, IsEventChecked, IsListChecked, agree_line, list_text, place_text, refusal_text, unsent_text};
-ghost use Rattle.import_report.specs.Events.{after_event, after_events, after_step};
+ghost use Rattle.import_report.specs.Events.{after_event, after_step};
 ghost use Rattle.import_report.specs.Scripts.{in_order};
 
 use crate::events::play;

@@ -2,7 +2,6 @@
 ghost use Rattle.std.specs.Prelude.{◌≡◌, ◌++◌, ◌<◌, ◌≤◌, ◌^◌, IfOk, OnOk, length, map, replicate, string_bytes};
 ghost use Rattle.std.specs.List.{All};
 ghost use Rattle.dots_core.specs.Names.{most_names};
-ghost use Rattle.import_core.specs.Imports.{note_at};
 ghost use Rattle.import_core.specs.Notes.{note_of};
 ghost use Rattle.import_core.specs.Tables.{all_of};
 ghost use Rattle.import_report.specs.Comments.{comments_text};

@@ -1,5 +1,5 @@
 //! `Causes`, the index of one node: its steps, and which steps deliver its messages.
-ghost use Rattle.std.specs.Prelude.{◌≡◌, ℕ, ◌≤◌, ◌++◌, ◌∷◌, [], ◌<◌, ◌+◌, ◌-◌, None, Some, OnOk, OnErr, length, take};
+ghost use Rattle.std.specs.Prelude.{◌≡◌, ℕ, ◌≤◌, ◌++◌, ◌∷◌, [], ◌<◌, ◌+◌, ◌-◌, None, Some, OnOk, length, take};
 ghost use Rattle.smallvec.specs.SmallVec.{HasRoomFor};
 ghost use Rattle.journal_core.specs.Numbers.{Rises, first_above, last, all_but};
 ghost use Rattle.journal_core.specs.Causes.{first_delivered, delivered, deliveries_at, SameBut, AddsMessage, IsSameIndex};

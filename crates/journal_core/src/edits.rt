@@ -1,5 +1,5 @@
 //! Edits of the slots and of all nodes' indices: making room for a step, keeping it, and taking it out.
-ghost use Rattle.std.specs.Prelude.{◌≡◌, ℕ, ◌++◌, ◌∷◌, [], ◌<◌, ◌≤◌, ◌↔◌, IsTrue, IsOk, Some, None, OnOk, OnErr, length, map};
+ghost use Rattle.std.specs.Prelude.{◌≡◌, ℕ, ◌++◌, ◌∷◌, [], ◌<◌, ◌≤◌, ◌↔◌, IsTrue, IsOk, Some, None, OnOk, length, map};
 ghost use Rattle.std.specs.List.{Contains};
 ghost use Rattle.node_core.specs.Operations.{delivers};
 ghost use Rattle.journal_core.specs.Numbers.{Rises, all_but, and_last};

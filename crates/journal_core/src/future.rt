@@ -1,13 +1,13 @@
 //! The future of a step: the step, its direct consequences, theirs, and so on. One pass over the steps, by rising
 //! number, gathers it. Each node has a bound: the node's steps with numbers above it are *reached*, which is to say
 //! found to be in the future so far. If the bound is `None`, no step of the node is reached yet.
-ghost use Rattle.std.specs.Prelude.{◌≡◌, ◌<◌, ◌-◌, ◌&&◌, replicate, nat_lt, IfOk, OnOk, OnErr, length, Some, None, [], option_map, option_copied};
+ghost use Rattle.std.specs.Prelude.{◌≡◌, ◌<◌, ◌-◌, ◌&&◌, replicate, nat_lt, IfOk, length, Some, None, []};
 ghost use Rattle.std.specs.Prelude.{slice_set};
 ghost use Rattle.journal_core.specs.Journals.{AreInCausalOrder, find_number, first_number, NumbersRise};
 ghost use Rattle.journal_core.specs.Futures.{IsFuture};
 ghost use Rattle.journal_core.specs.Holdings.{Held, kepts};
 ghost use Rattle.journal_core.specs.Causes.{AreIndexed, AreKnown};
-ghost use Rattle.journal_core.specs.Bounds.{bound_at, lower_bound, lower_at, lowered, next_own, reaches, delivered_from, IsGatheredUpTo};
+ghost use Rattle.journal_core.specs.Bounds.{lower_at, lowered, next_own, reaches, delivered_from, IsGatheredUpTo};
 
 use crate::causes::Causes;
 use crate::held::Held;

@@ -1,6 +1,5 @@
 //! `Held`: a kept step with its inverse, which may be lent.
 ghost use Rattle.std.specs.Prelude.{◌≡◌, None, Some, option_map};
-ghost use Rattle.node_core.specs.Operations.{plain};
 ghost use Rattle.node_core.specs.Inverses.{plain_inverse};
 
 use crate::kept::Kept;

@@ -1,6 +1,6 @@
 //! `Slots`: the held steps by rising number. A step is taken out where it stands, and no other step moves.
-ghost use Rattle.std.specs.Prelude.{◌≡◌, ◌≤◌, ◌++◌, ◌∷◌, [], ◌<◌, ◌+◌, false, None, Some, OnOk, OnErr, option_copied, option_map, slice_get};
-ghost use Rattle.std.specs.Prelude.{length, slice_set, vec_len, vec_capacity};
+ghost use Rattle.std.specs.Prelude.{◌≡◌, ◌≤◌, ◌++◌, ◌∷◌, [], ◌<◌, ◌+◌, false, None, Some, OnOk, option_copied, option_map, slice_get};
+ghost use Rattle.std.specs.Prelude.{length, vec_len, vec_capacity};
 ghost use Rattle.node_core.specs.Inverses.{plain_inverse};
 ghost use Rattle.journal_core.specs.Numbers.{Rises};
 ghost use Rattle.journal_core.specs.Holdings.{kepts, find_held, inverse_of, with_inverse, without_held};

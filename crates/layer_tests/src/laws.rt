@@ -1,9 +1,8 @@
 //! The laws can be used on any bench: the bench's contracts say what the laws ask for. Each function calls the laws on
 //! which its own contract stands.
 ghost use Rattle.std.specs.Prelude.{◌≡◌, ℕ, List, Ok, Some, None, length, map};
-ghost use Rattle.journal_core.specs.Journals.{Kept, NumbersRise, steps_before, find_number, first_consequence, own_steps, without};
+ghost use Rattle.journal_core.specs.Journals.{Kept, NumbersRise, steps_before, find_number, first_consequence, without};
 ghost use Rattle.journal_core.specs.Futures.{IsFuture};
-ghost use Rattle.node_core.specs.Nodes.{Node, opening_node};
 ghost use Rattle.bench_core.specs.declared.reply.Reply.TheVariants.{Undone};
 ghost use Rattle.bench_core.specs.Limits.{node_limits};
 ghost use Rattle.bench_core.specs.Clusters.{Cluster};

@@ -1,6 +1,5 @@
 //! The JSON value of a line.
 ghost use Rattle.std.specs.Prelude.{◌≡◌, ◌≤◌, false, length, Some, IfOk, IfErr, option_map};
-ghost use Rattle.std.specs.List.{list_all};
 ghost use Rattle.serde_json.specs.View.{view};
 ghost use Rattle.log_core.specs.Lines.{longest_event, is_space, is_blank, IsValueOf, HasNoValue};
 

@@ -1,6 +1,6 @@
 //! `Cone`: which names matter at a node once it has taken 0, 1, 2 and so on of its own steps (all but deliveries), and
 //! which matter in each message. A name matters where its dots can decide what the end of a run shows to the question.
-ghost use Rattle.std.specs.Prelude.{◌≡◌, ◌<◌, ℕ, List, map, suc, true, IsTrue, Some, slice_get};
+ghost use Rattle.std.specs.Prelude.{◌≡◌, ◌<◌, ℕ, map, suc, true, IsTrue, Some, slice_get};
 ghost use Rattle.std.specs.FinSet.{contains};
 ghost use Rattle.std.specs.List.{AllByRecursion};
 ghost use Rattle.dots_core.specs.declared.dot.Dot.{Dot as PlainDot};

@@ -1,9 +1,8 @@
 //! `Key`, by which states are compared: from two states with the same key the same outcomes can follow.
-ghost use Rattle.std.specs.Prelude.{◌≡◌, ◌++◌, IfOk, OnOk, Some, length, option_map, slice_get};
-ghost use Rattle.std.specs.Option.{option_copied};
+ghost use Rattle.std.specs.Prelude.{◌≡◌, ◌++◌, IfOk, OnOk, Some, length, option_map};
 ghost use Rattle.node_core.specs.Operations.{plain};
 ghost use Rattle.bench_core.specs.Clusters.{message_at};
-ghost use Rattle.network_rules.specs.Queries.{standing_of, standings_of, at_node, in_message, key_of, message_queries, message_query, node_queries, node_query, queries_at_nodes, queries_of_messages, sends_held, sent_queries, AtNode, InMessage};
+ghost use Rattle.network_rules.specs.Queries.{standings_of, at_node, in_message, key_of, message_queries, message_query, node_queries, node_query, queries_at_nodes, queries_of_messages, sends_held, sent_queries};
 ghost use Rattle.network_rules.specs.Tables.{carried, matter};
 ghost use Rattle.network_rules.specs.Standings.{standing_in};
 

@@ -4,7 +4,7 @@ ghost use Rattle.dots_core.specs.Names.{most_names};
 ghost use Rattle.bench_core.specs.Laws.{presence_made};
 ghost use Rattle.node_core.specs.Operations.{Broadcast, plain};
 ghost use Rattle.page_data.specs.Carried.{message_in};
-ghost use Rattle.page_data.specs.PageData.{arrival_keys, carried_keys, delivery_keys, gives_keys, made_at, made_head, made_keys, made_text, message_keys, outbox_keys, reads_keys, sent_keys, word_text};
+ghost use Rattle.page_data.specs.PageData.{arrival_keys, carried_keys, delivery_keys, gives_keys, made_head, made_keys, made_text, outbox_keys, reads_keys, sent_keys, word_text};
 
 use crate::arriving::{hops_at, missed_at};
 use crate::json::{put_number_if, put_number_key, put_numbers_key, put_string};

@@ -5,7 +5,7 @@ ghost use Rattle.report_core.specs.Rows.{name_at};
 ghost use Rattle.svg_core.specs.Trees.{opening_text, text_of};
 ghost use Rattle.picture_core.specs.Online.{bar_path};
 ghost use Rattle.picture_core.specs.Pictures.{bar_at, bars_from, front, ground, head_height, height, lanes_from, longest_name, names_from, part, part_of, picture, range_of, size, size_of, style, text_around, view_box, width};
-ghost use Rattle.picture_core.specs.Shapes.{lane, lane_name};
+ghost use Rattle.picture_core.specs.Shapes.{lane};
 ghost use Rattle.picture_core.specs.Shades.{painted_of};
 
 use crate::layers::{Layers, layers_of, with_length};

@@ -1,6 +1,6 @@
 //! Which rows are drawn.
 ghost use Rattle.std.specs.Prelude.{◌≡◌, ◌≤◌, length};
-ghost use Rattle.picture_core.specs.Pictures.{calls_before, first_row, is_from, last_row, range_of};
+ghost use Rattle.picture_core.specs.Pictures.{calls_before, first_row, is_from, last_row};
 ghost use Rattle.picture_core.specs.Rows.{is_drawn, is_seen};
 
 use bench_core::{History, Reply};

@@ -2,7 +2,7 @@
 ghost use Rattle.std.specs.Prelude.{◌≡◌, ◌==◌, IfOk};
 ghost use Rattle.std.specs.List.{list_any};
 ghost use Rattle.journal_core.specs.Holdings.{kepts};
-ghost use Rattle.picture_core.specs.Shades.{drawn_steps, nothing_drawn, of_message, shade_of, step_at, with_reply};
+ghost use Rattle.picture_core.specs.Shades.{drawn_steps, of_message, shade_of, step_at, with_reply};
 
 use bench_core::{Bench, Journal, Reply};
 use dots_core::Oom;

@@ -8,7 +8,7 @@ ghost use Rattle.transcript_core.specs.Scripts.{IsScriptOf};
 ghost use Rattle.transcript_core.specs.Steps.{bench_steps, script_steps};
 ghost use Rattle.command_line.specs.declared.chosen.Subcommand.TheVariants as subcommands;
 ghost use Rattle.program_core.specs.Program.{EndsAt, FailsAs, KeepsBefore, TellsMemory};
-ghost use Rattle.program_core.specs.Shown.{EndsAsShown, IsWant, PrintsBench, PrintsPlay, RefusesBench, RefusesCalls, RefusesPlay, ShowsBench, ShowsScript, line_refused, act_refused, refused_act, refused_line};
+ghost use Rattle.program_core.specs.Shown.{EndsAsShown, IsWant, PrintsBench, PrintsPlay, RefusesBench, RefusesCalls, RefusesPlay, ShowsBench, ShowsScript, refused_act, refused_line};
 ghost use Rattle.program_core.specs.Texts.{session_text, text_bytes};
 
 use crate::fault::{ProgramFault, Refused};

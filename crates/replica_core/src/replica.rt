@@ -2,7 +2,7 @@
 //!
 //! This module has the type and what is read of it. Below it are a module for each kind of call, and `undone`, which
 //! takes a call back by its change. A broadcast, which takes the delta out, is taken back in `deltas`.
-ghost use Rattle.std.specs.Prelude.{◌≡◌, ◌↔◌, ◌<◌, ◌≤◌, ◌^◌, IfOk, IsTrue};
+ghost use Rattle.std.specs.Prelude.{◌≡◌, ◌↔◌, ◌<◌, ◌^◌, IfOk, IsTrue};
 ghost use Rattle.std.specs.FinMap as fin;
 ghost use Rattle.dots_core.specs.Names.{most_names};
 ghost use Rattle.replica_core.specs.Delivered.{AreOtherKnown};

@@ -1,5 +1,5 @@
 //! `Line`: the end of a text, gathered in place, so that many short pieces are appended to the text at once.
-ghost use Rattle.std.specs.Prelude.{◌≡◌, ◌+◌, ◌≤◌, [], ◌++◌, OnOk, codes, decimal, length, string_bytes};
+ghost use Rattle.std.specs.Prelude.{◌≡◌, ◌+◌, ◌≤◌, [], ◌++◌, OnOk, codes, length, string_bytes};
 ghost use Rattle.arrayvec.specs.ArrayString.{array_string_len};
 ghost use Rattle.payload_core.specs.Words.{longest_word};
 ghost use Rattle.report_core.specs.Rows.{parts_text, reply_line};

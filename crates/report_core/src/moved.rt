@@ -1,5 +1,5 @@
 //! `Moved`: the rows that left and joined the online list of a node over several undos.
-ghost use Rattle.std.specs.Prelude.{◌≡◌, ◌++◌, IfOk, List, OnOk};
+ghost use Rattle.std.specs.Prelude.{◌≡◌, IfOk, List, OnOk};
 ghost use Rattle.bench_core.specs.declared.reply.Reply.TheVariants.{Undone};
 ghost use Rattle.bench_core.specs.Acts.{Undo};
 ghost use Rattle.bench_core.specs.Machine.{Machine, undo_reply};

@@ -1,5 +1,5 @@
 //! Prints the future of a step, and undoes a step with all of its future.
-ghost use Rattle.std.specs.Prelude.{◌≡◌, ◌++◌, List, OnOk, IfOk, string_bytes, false};
+ghost use Rattle.std.specs.Prelude.{◌≡◌, ◌++◌, List, OnOk, string_bytes, false};
 ghost use Rattle.bench_core.specs.declared.reply.Reply.TheVariants.{Refused};
 ghost use Rattle.bench_core.specs.Machine.{Machine};
 ghost use Rattle.bench_core.specs.Unwinds.{CanBeUndone};

@@ -1,5 +1,5 @@
 //! `save`: a bench as the text of its session.
-ghost use Rattle.std.specs.Prelude.{◌≡◌, IfOk, IsUtf8, Some, codes, map};
+ghost use Rattle.std.specs.Prelude.{◌≡◌, IfOk, codes, map};
 ghost use Rattle.std.specs.List.{AllByRecursion};
 ghost use Rattle.serde_json.specs.Data.{string, object, member, no_members};
 ghost use Rattle.serde_json.specs.View.{view};

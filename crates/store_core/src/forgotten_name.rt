@@ -3,7 +3,6 @@ ghost use Rattle.std.specs.Prelude.{◌≡◌, ◌≢◌, ◌==◌, ◌<◌, IfE
 ghost use Rattle.std.specs.FinMap as fin;
 ghost use Rattle.std.specs.FinSet as set;
 ghost use Rattle.dots_core.specs.Names.{most_names};
-ghost use Rattle.entry_core.specs.EntryLists.{pairs};
 ghost use Rattle.store_core.specs.DeltaStores.{CanBeRemembered, with_remembered};
 ghost use Rattle.store_core.specs.ForgottenNames.{Holds};
 ghost use Rattle.entry_core.specs.Presences.{entries_of_names};

@@ -5,7 +5,7 @@ ghost use Rattle.bench_core.specs.Machine.{opening_machine};
 ghost use Rattle.grammar_core.specs.Scripts.{plain_command, plain_lines, plain_script};
 ghost use Rattle.run_core.specs.Report.{after_command, call_of, commands_of, played};
 ghost use Rattle.transcript_core.specs.Scripts.{cast_of};
-ghost use Rattle.transcript_core.specs.Steps.{bench_steps, byte_text, command_head, command_steps, head_line, indented, note_text, number_text, recorded, reply_at, script_steps, steps_text, taker_of, taker_text, takers_of, undone_text, unwind_number, unwinds_one, with_reply, with_taker};
+ghost use Rattle.transcript_core.specs.Steps.{bench_steps, byte_text, command_head, command_steps, head_line, indented, note_text, number_text, reply_at, script_steps, steps_text, taker_of, taker_text, takers_of, undone_text, unwind_number, unwinds_one, with_reply, with_taker};
 
 use crate::actors::{CastRef, actor_name};
 use crate::lines::put_call;

@@ -1,6 +1,6 @@
 //! All changes that can be made to a run.
-ghost use Rattle.std.specs.Prelude.{◌≡◌, ◌≤◌, ◌<◌, ◌+◌, ◌++◌, IfOk, OnOk, length};
-ghost use Rattle.change_core.specs.Changes.{change_at, changes, changes_by, changes_of, changes_to, if_change, reach};
+ghost use Rattle.std.specs.Prelude.{◌≡◌, ◌<◌, ◌+◌, ◌++◌, IfOk, OnOk, length};
+ghost use Rattle.change_core.specs.Changes.{change_at, changes, changes_by, changes_of, if_change, reach};
 
 use bench_core::Kept;
 use change_core::{Change, Kind, is_change};

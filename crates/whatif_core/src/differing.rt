@@ -1,7 +1,7 @@
 //! The changes that make a difference.
-ghost use Rattle.std.specs.Prelude.{◌≡◌, ◌≤◌, ◌<◌, ◌++◌, IfOk, OnOk, length};
+ghost use Rattle.std.specs.Prelude.{◌≡◌, ◌<◌, IfOk, OnOk, length};
 ghost use Rattle.change_core.specs.Changes.{changes};
-ghost use Rattle.whatif_core.specs.Differences.{nothing, tally_from, tally_of};
+ghost use Rattle.whatif_core.specs.Differences.{nothing, tally_of};
 ghost use Rattle.change_core.specs.Ends.{rows_before};
 ghost use Rattle.whatif_core.specs.Exact.{AreExactly};
 ghost use Rattle.change_core.specs.Searches.{IsSearch};

@@ -1,5 +1,5 @@
 //! Answers what would have made a difference, for a question in words.
-ghost use Rattle.std.specs.Prelude.{◌≡◌, IfErr, IfOk, length, option_map, string_bytes};
+ghost use Rattle.std.specs.Prelude.{◌≡◌, IfErr, IfOk, option_map, string_bytes};
 ghost use Rattle.payload_core.specs.Messages.{numbered};
 ghost use Rattle.whatif_core.specs.Differences.{nearest_change};
 ghost use Rattle.whatif_core.specs.Exact.{HasOrder};

@@ -1,5 +1,5 @@
 //! The text of a difference, with the rows that its changes take away and bring.
-ghost use Rattle.std.specs.Prelude.{◌≡◌, ◌++◌, IfOk, OnOk, Some, nat_lt, string_bytes};
+ghost use Rattle.std.specs.Prelude.{◌≡◌, ◌++◌, IfOk, OnOk, Some, string_bytes};
 ghost use Rattle.diff_core.specs.Diffs.{alone};
 ghost use Rattle.diff_core.specs.Rows.{is_among};
 ghost use Rattle.journal_core.specs.Holdings.{kepts};
