@@ -5,11 +5,15 @@ use explore_report::ReportFault;
 use hint_core::{import_hint, script_hint, session_hint};
 use import_core::ImportFault;
 use picture_core::DrawFault;
-use script_core::ScriptFault;
+use script_core::{FaultKind, ScriptFault};
 use session_core::SessionFault;
 use std::alloc::Global;
 use std::io::Write;
 use whatif_report::WhatifFault;
+
+/// The hint of the fault that a race finds once the input is gone. It is true of a play's line, too.
+const NOT_ALLOWED: &str =
+    "hint: a console may undo, go back and unwind; a race takes steps, undos and backs alone\n";
 
 const NO_SUCH_NODE: &str =
     "hint: the line `nodes` of a script names the nodes; a session has their names at `nodes`\n";
@@ -17,9 +21,11 @@ const NO_SUCH_NODE: &str =
 const NO_WORD: &str =
     "hint: a word has 1 to 200 bytes of graphic ASCII; `import` writes a space as `%20`\n";
 
-/// The hint behind a fault of a question about a run, as a line with its line feed; empty if the fault has none.
+/// The hint behind a fault if the input has none: of a question about a run, or of a race's line. It is a line with its
+/// line feed, or empty if there is none.
 fn hint_of(fault: ProgramFault) -> &'static str {
     match fault {
+        ProgramFault::Script(fault) if fault.kind == FaultKind::NotAllowed => NOT_ALLOWED,
         ProgramFault::Explain(AskFault::NoSuchNode)
         | ProgramFault::Whatif(WhatifFault::NoSuchNode)
         | ProgramFault::Explore(ReportFault::NoSuchNode)
@@ -32,8 +38,8 @@ fn hint_of(fault: ProgramFault) -> &'static str {
     }
 }
 
-/// The hint that is printed after the line of a fault; `None` if the fault has no hint, or memory for the hint was
-/// refused.
+/// The hint that was made of a refused input, to be printed after the line of its fault; `None` if the input has no
+/// hint, or memory for the hint was refused.
 #[derive(Drop)]
 pub struct Aside {
     heap: Global,

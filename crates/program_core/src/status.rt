@@ -188,13 +188,32 @@ fn print_help<W: Write, E: Write>(help: &clap::Error, writer: &mut W, errors: &m
 const FILE_HINT: &str =
     "hint: the input is read from standard input; put < before the name of a file\n";
 
+/// The text with `\u{..}` in place of each character but line feeds, spaces and graphic ASCII: a terminal obeys some
+/// of the others, and a word may have any.
+fn escaped(heap: Global, text: &str) -> Result<String, Oom> {
+    let mut escaped = String::new(heap);
+    for letter in text.chars() {
+        if letter == '\n' || letter == ' ' || letter.is_ascii_graphic() {
+            escaped.push(letter)?;
+        } else {
+            for part in letter.escape_unicode() {
+                escaped.push(part)?;
+            }
+        }
+    }
+    Ok(escaped)
+}
+
 /// Prints what is wrong with the words. If that is a word too many which doesn't begin with `-`, prints a hint, too,
 /// since such a word may be the name of a file. Prints nothing if memory is refused.
 fn tell_words<E: Write>(heap: Global, fault: &clap::Error, errors: &mut E) {
     let Ok(text) = format!(in heap; "{fault}") else {
         return;
     };
-    let _ = errors.write_all(text.as_bytes());
+    let Ok(line) = escaped(heap, &text) else {
+        return;
+    };
+    let _ = errors.write_all(line.as_bytes());
     if fault.kind() == ErrorKind::UnknownArgument && !text.contains("argument '-") {
         let _ = errors.write_all(FILE_HINT.as_bytes());
     }
