@@ -12,7 +12,7 @@ use Rattle.dots_core.specs.Dots.{Dots, of_names}
 use Rattle.dots_core.specs.Names.{Names, HasAll}
 use Rattle.dots_core.specs.Clocks.{Clocks, no_clocks, is_among, holds, RisesAbove, IsCanonical, Gains, IsUnion}
 use Rattle.dots_core.specs.Parts.{dots_of_parts, part_at, AreParts}
-use Rattle.dots_core.specs.Unions.{IsLeast, without_first, AddsOnly, GainsEach, HasEach, IsGrown, IsUnionFrom}
+use Rattle.dots_core.specs.Unions.{IsLeast, without_first, AddsOnly, GainsEach, HasEach, HaveNone, IsGrown, IsUnionFrom}
 use Rattle.dots_core.proofs.Clocks.{or_swap, same_tests, among_head, among_cases, rises_lower, rises_within, rises-append, holds_low, holds_cases, same_clocks}
 use Rattle.dots_core.proofs.Names.{contains-remove_name}
 use Rattle.dots_core.proofs.Sets.{contains-retain, contains-union, same_dots}
@@ -372,6 +372,35 @@ union_skip names name ps qs rs off h = record {
         now_off n name (set.contains names n) (holds (part_at qs n) k) e
         ∙ sym (left_out (nat_le name n) (set.contains names n) (holds (part_at qs n) k) (ap (set.contains names) e ∙ off))
     go n k (inr d) = later n name (set.contains names n) (holds (part_at qs n) k) d
+
+-- names of which none is one of these with a clock
+none_here : (a b c : Bool) → (b && c) ≡ false → ((a && b) && c) ≡ false
+none_here true b c e = e
+none_here false b c e = refl
+
+from_both : (n name next : ℕ) (b c : Bool) → name ≤ next → next ≤ n → ((nat_le next n && b) && c) ≡ ((nat_le name n && b) && c)
+from_both n name next b c le above = grind (arith, nat_tests)
+
+from_neither : (n name : ℕ) (b c : Bool) → n < name → ((nat_le name n && b) && c) ≡ false
+from_neither n name b c below = grind (arith, nat_tests)
+
+pub union_next : (names : Names) (name next : ℕ) (ps qs rs : List Clocks) → name ≤ next → HaveNone names qs name next →
+    IsUnionFrom names next ps qs rs → IsUnionFrom names name ps qs rs
+union_next names name next ps qs rs le none h = record {
+  parts = h.parts;
+  clocks = λ n k. h.clocks n k ∙ ap (λ b. holds (part_at ps n) k || b) (go n k (cases_lt n next) (cases_lt n name));
+}
+  where
+    go : (n k : ℕ) → (n < next) ⊎ (next ≤ n) → (n < name) ⊎ (name ≤ n) →
+        ((nat_le next n && set.contains names n) && holds (part_at qs n) k) ≡
+        ((nat_le name n && set.contains names n) && holds (part_at qs n) k)
+    go n k (inr above) from = from_both n name next (set.contains names n) (holds (part_at qs n) k) le above
+    go n k (inl below) (inl before) =
+        from_neither n next (set.contains names n) (holds (part_at qs n) k) below
+        ∙ sym (from_neither n name (set.contains names n) (holds (part_at qs n) k) before)
+    go n k (inl below) (inr from) =
+        from_neither n next (set.contains names n) (holds (part_at qs n) k) below
+        ∙ sym (none_here (nat_le name n) (set.contains names n) (holds (part_at qs n) k) (none n k from below))
 
 -- a name whose union is put in place, or is there already
 pub union_put : (names : Names) (name : ℕ) (ps qs rs ts : List Clocks) (u : Clocks) → set.contains names name ≡ true →

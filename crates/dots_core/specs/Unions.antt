@@ -1,5 +1,5 @@
 -- The union of two lists of parts, name by name.
-use Rattle.std.specs.Prelude.{◌≡◌, ℕ, ◌<◌, ◌≤◌, ◌==◌, ◌⊎◌, true, nat_le, ◌&&◌, ◌||◌, List, [], ◌∷◌, Option, Some, None, if◌then◌else◌}
+use Rattle.std.specs.Prelude.{◌≡◌, ℕ, ◌<◌, ◌≤◌, ◌==◌, ◌⊎◌, true, false, nat_le, ◌&&◌, ◌||◌, List, [], ◌∷◌, Option, Some, None, if◌then◌else◌}
 use Rattle.std.specs.FinSet as set
 use Rattle.dots_core.specs.Dots.{last_clock}
 use Rattle.dots_core.specs.Names.{Names}
@@ -43,3 +43,7 @@ pub record IsUnionFrom (names : Names) (name : ℕ) (before others after : List 
   pub parts : AreParts after
   pub clocks : (n k : ℕ) → holds (part_at after n) k ≡ (holds (part_at before n) k ||
       ((nat_le name n && set.contains names n) && holds (part_at others n) k))
+
+-- no name of `names` from `name` to before `next` has a clock in these parts
+abbrev pub HaveNone : Names → List Clocks → ℕ → ℕ → Type 0
+HaveNone names ps name next = (n k : ℕ) → name ≤ n → n < next → (set.contains names n && holds (part_at ps n) k) ≡ false

@@ -1,13 +1,13 @@
 //! A finite set of dots, kept as a context clock and a cloud for each name.
 
-ghost use Rattle.std.specs.Prelude.{◌≡◌, ◌↔◌, ◌^◌, ◌<◌, ◌≤◌, ◌==◌, ◌&&◌, not, IsOk, IsTrue, IfOk, OnOk, OnErr};
+ghost use Rattle.std.specs.Prelude.{◌≡◌, ℕ, ◌↔◌, ◌^◌, ◌<◌, ◌≤◌, ◌==◌, ◌&&◌, not, IsOk, IsTrue, IfOk, OnOk, OnErr, false, true};
 ghost use Rattle.std.specs.FinSet as set;
 ghost use Rattle.dots_core.specs.ClockBits.{AreBitsOf};
 ghost use Rattle.dots_core.specs.Dots.{IsFirstDot, IsValid, AreValid, of_names};
 ghost use Rattle.dots_core.specs.Contexts.{HasAllOf, IsContext, IsNext, IsLast, IsCloudOf, IsPartOf, others, with_part};
-ghost use Rattle.dots_core.specs.Clocks.{no_clocks};
-ghost use Rattle.dots_core.specs.Parts.{AreParts};
-ghost use Rattle.dots_core.specs.Unions.{IsUnionFrom};
+ghost use Rattle.dots_core.specs.Clocks.{holds, no_clocks};
+ghost use Rattle.dots_core.specs.Parts.{AreParts, part_at};
+ghost use Rattle.dots_core.specs.Unions.{HaveNone, IsUnionFrom};
 ghost use Rattle.dots_core.specs.Names.{most_names};
 
 use crate::Oom;
@@ -290,6 +290,33 @@ fn clock_from(dot: Dot, name: u16) -> u64
     if name == dot.name { dot.clock } else { 0 }
 }
 
+/// Whether the name is in `names` and its part has a clock.
+fn is_joined<A: Allocator>(parts: &[Part<A>], names: NameSet, name: u16) -> bool
+    requires parts { AreParts parts.now }
+    requires name { name < most_names }
+    ensures yes { IsTrue result → set.contains names name ≡ true }
+    ensures no { IsTrue (not result) → (k : ℕ) → (set.contains names name && holds (part_at parts.now name) k) ≡ false }
+{
+    names.has(name) && !parts[usize::from(name)].is_empty()
+}
+
+/// The first of `names` from `name` on whose part has a clock; 32 if there is none.
+fn next_joined<A: Allocator>(parts: &[Part<A>], names: NameSet, name: u16) -> u16
+    requires parts { AreParts parts.now }
+    requires name { name ≤ most_names }
+    ensures from { name ≤ result }
+    ensures most { result ≤ most_names }
+    ensures joined { result < most_names → set.contains names result ≡ true }
+    ensures between { HaveNone names parts.now name result }
+{
+    for next in name..MOST_NAMES {
+        if is_joined(parts, names, next) {
+            return next;
+        }
+    }
+    MOST_NAMES
+}
+
 /// Adds the parts of `others` to `parts`, for each of `names` from `name` on; if memory is refused, `parts` stays. On
 /// the way down the recursion makes each union, which may be refused memory; on the way back, when nothing can be
 /// refused any more, the recursion puts each union in its place.
@@ -306,15 +333,13 @@ fn union_from<A: Allocator + Copy>(
     ensures ok { OnOk result (IsUnionFrom names name parts.old others.now parts.new) }
     ensures err { OnErr result (parts.new ≡ parts.old) }
 {
-    if name == MOST_NAMES {
+    let next = next_joined(others, names, name);
+    if next == MOST_NAMES {
         return Ok(());
     }
-    if !names.has(name) {
-        return union_from(parts, others, names, name + 1);
-    }
-    let at = usize::from(name);
+    let at = usize::from(next);
     let new = grown(&parts[at], &others[at])?;
-    union_from(parts, others, names, name + 1)?;
+    union_from(parts, others, names, next + 1)?;
     if let Some(part) = new {
         parts[at] = part;
         // form: the part has moved into its place, so this case returns by itself

@@ -1,10 +1,10 @@
 use Rattle.std.proofs.lemmas.Grind.{common_steps}
-use Rattle.std.proofs.Common.{◌≡◌, ◌<◌, Some, None, get_or, true, subst, arith}
+use Rattle.std.proofs.Common.{◌≡◌, ◌<◌, Some, None, get_or, slice_set, true, subst, arith}
 use Rattle.std.specs.FinSet as set
 use Rattle.dots_core.specs.Clocks.{Clocks}
 use Rattle.dots_core.specs.Unions.{IsGrown}
 use Rattle.dots_core.proofs.Parts.{parts_set}
-use Rattle.dots_core.proofs.Unions.{union_grown_at, union_kept_at}
+use Rattle.dots_core.proofs.Unions.{union_grown_at, union_kept_at, union_next}
 use Rattle.dots_core.proofs.dot_set.+union_from.Goals as goal
 
 pub returns-in-Some-clause-parts : goal.returns-in-Some-clause-parts
@@ -14,7 +14,7 @@ returns-in-Some-clause-parts g t c =
     let grown : IsGrown own other (Some c.in-Some.part) =
     subst (λ (z : Clocks). IsGrown own z (Some c.in-Some.part)) c.index-others-at.is
     (subst (IsGrown own c.index-others-at.result) c.in-Some.is c.in_ok-new.ensures) in
-    parts_set c.union_from-2.new.parts c.from-at.result c.in-Some.part c.union_from-2.ensures.parts grown.0
+    parts_set c.union_from.new.parts c.from-at.result c.in-Some.part c.union_from.ensures.parts grown.0
 
 pub returns-in-Some-clause-ok : goal.returns-in-Some-clause-ok
 returns-in-Some-clause-ok g t c =
@@ -23,11 +23,12 @@ returns-in-Some-clause-ok g t c =
     let grown : IsGrown own other (Some c.in-Some.part) =
     subst (λ (z : Clocks). IsGrown own z (Some c.in-Some.part)) c.index-others-at.is
     (subst (IsGrown own c.index-others-at.result) c.in-Some.is c.in_ok-new.ensures) in
-    let name : c.args.name < 32 = omega (arith, c.requires.name, c.if-name-eq-MOST_NAMES.false) in
-    let on : set.contains c.args.names c.args.name ≡ true = cc (c.has.ensures, c.if-not-has.false) in
-    union_grown_at c.args.names c.args.name c.from-at.result c.args.parts.now c.args.others.now c.union_from-2.new.parts
+    let next : c.next_joined-next.result < 32 = omega (arith, c.next_joined-next.ensures.most, c.if-next-eq-MOST_NAMES.false) in
+    let on : set.contains c.args.names c.next_joined-next.result ≡ true = c.next_joined-next.ensures.joined next in
+    union_next c.args.names c.args.name c.next_joined-next.result c.args.parts.now c.args.others.now (slice_set c.union_from.new.parts c.from-at.result c.in-Some.part) c.next_joined-next.ensures.from c.next_joined-next.ensures.between
+    (union_grown_at c.args.names c.next_joined-next.result c.from-at.result c.args.parts.now c.args.others.now c.union_from.new.parts
     c.index-parts-at.result c.index-others-at.result c.in-Some.part
-    c.requires.own c.requires.other c.from-at.ensures name on grown c.in_ok-union_from.ensures.ok
+    c.requires.own c.requires.other c.from-at.ensures next on grown c.in_ok-union_from.ensures.ok)
 
 pub returns-clause-ok : goal.returns-clause-ok
 returns-clause-ok g t c =
@@ -36,11 +37,12 @@ returns-clause-ok g t c =
     let grown : IsGrown own other None =
     subst (λ (z : Clocks). IsGrown own z None) c.index-others-at.is
     (subst (IsGrown own c.index-others-at.result) c.in_default.is c.in_ok-new.ensures) in
-    let name : c.args.name < 32 = omega (arith, c.requires.name, c.if-name-eq-MOST_NAMES.false) in
-    let on : set.contains c.args.names c.args.name ≡ true = cc (c.has.ensures, c.if-not-has.false) in
-    union_kept_at c.args.names c.args.name c.from-at.result c.args.parts.now c.args.others.now c.union_from-2.new.parts
+    let next : c.next_joined-next.result < 32 = omega (arith, c.next_joined-next.ensures.most, c.if-next-eq-MOST_NAMES.false) in
+    let on : set.contains c.args.names c.next_joined-next.result ≡ true = c.next_joined-next.ensures.joined next in
+    union_next c.args.names c.args.name c.next_joined-next.result c.args.parts.now c.args.others.now c.union_from.new.parts c.next_joined-next.ensures.from c.next_joined-next.ensures.between
+    (union_kept_at c.args.names c.next_joined-next.result c.from-at.result c.args.parts.now c.args.others.now c.union_from.new.parts
     c.index-parts-at.result c.index-others-at.result
-    c.requires.own c.requires.other c.from-at.ensures name on grown c.in_ok-union_from.ensures.ok
+    c.requires.own c.requires.other c.from-at.ensures next on grown c.in_ok-union_from.ensures.ok)
 
 pub offset_bounds-parts-at-in-Some : goal.offset_bounds-parts-at-in-Some
 offset_bounds-parts-at-in-Some g t c = grind (arith, common_steps)
@@ -48,5 +50,5 @@ offset_bounds-parts-at-in-Some g t c = grind (arith, common_steps)
 pub offset_bounds-parts-at : goal.offset_bounds-parts-at
 offset_bounds-parts-at g t c = grind (arith, common_steps)
 
-pub returns-then-name-eq-MOST_NAMES-clause-ok : goal.returns-then-name-eq-MOST_NAMES-clause-ok
-returns-then-name-eq-MOST_NAMES-clause-ok g t c = grind (arith, common_steps)
+pub returns-then-next-eq-MOST_NAMES-clause-ok : goal.returns-then-next-eq-MOST_NAMES-clause-ok
+returns-then-next-eq-MOST_NAMES-clause-ok g t c = grind (arith, common_steps)
