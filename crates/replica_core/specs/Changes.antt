@@ -39,13 +39,13 @@ pub data Change : Type 0 where
 
 abbrev pub plain_change : {X : Type 0} → declared.Change X → Change
 plain_change variants.Join = OfJoin
-plain_change (variants.Leave left) = OfLeave left
+plain_change (variants.Leave left) = OfLeave left.value
 plain_change (variants.LeaveAll lefts) = OfLeaveAll lefts.items
-plain_change (variants.Update left) = OfUpdate left
+plain_change (variants.Update left) = OfUpdate left.value
 plain_change (variants.Up name before) = OfUp name before
 plain_change (variants.Down name before) = OfDown name before
-plain_change (variants.Permdown name forgotten) = OfPermdown name forgotten
-plain_change (variants.Deliver delivered) = OfDeliver delivered
+plain_change (variants.Permdown name forgotten) = OfPermdown name forgotten.value
+plain_change (variants.Deliver delivered) = OfDeliver delivered.value
 
 -- whether the change is taken back without memory, as that of a join, an up and a down is
 abbrev pub needs_no_memory : Change → Bool

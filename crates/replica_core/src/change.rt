@@ -13,24 +13,34 @@ use std::alloc::Allocator;
 use store_core::{Delivered, Forgotten, Left};
 
 /// What one call of a replica destroyed: `Replica::undo` takes the call back with it (Danos and Krivine: causal undo).
+/// What is large stands in a box, as most calls destroy little.
 #[derive(Drop)]
 pub enum Change<A: Allocator> {
     /// A join destroys nothing, and its dot is the last own dot.
     Join,
     /// The entry that left, and what the delta had at its dot.
-    Leave(Left<A>),
+    Leave(Box<Left<A>, A>),
     /// For each entry that left, by rising dot: the entry, and what the delta had at its dot.
     LeaveAll(Vec<Left<A>, A>),
     /// The old entry, and what the delta had at its dot.
-    Update(Left<A>),
+    Update(Box<Left<A>, A>),
     /// The name, and its status before, if it was known.
-    Up { name: u16, before: Option<Status> },
+    Up {
+        name: u16,
+        before: Option<Status>,
+    },
     /// The name, and its status before, which is never `None`: a name that goes down was known.
-    Down { name: u16, before: Option<Status> },
+    Down {
+        name: u16,
+        before: Option<Status>,
+    },
     /// The name, which was down, and the dots and entries that the replica held of it.
-    Permdown { name: u16, forgotten: Forgotten<A> },
+    Permdown {
+        name: u16,
+        forgotten: Box<Forgotten<A>, A>,
+    },
     /// The dots whose entries joined, the entries that left, and the old parts of the names whose dots changed.
-    Deliver(Delivered<A>),
+    Deliver(Box<Delivered<A>, A>),
 }
 
 impl<A: Allocator> Change<A> {

@@ -34,21 +34,29 @@ impl<A: Allocator> Model for Forgotten<A> {
 impl<A: Allocator + Copy> DeltaStore<A> {
     /// Forgets `name`, which isn't the own name: takes out its dots and entries. The delta stays, as it has own dots
     /// alone. What the store held of the name is returned, for `remember`. An `Err` changes nothing.
-    pub fn forget(&mut self, name: u16) -> Result<Forgotten<A>, Oom>
+    pub fn forget(&mut self, name: u16) -> Result<Box<Forgotten<A>, A>, Oom>
         requires name { name < most_names }
         requires other { name ≢ self.old.own }
         ensures forgotten { OnOk result (self.new ≡ record self.old { store = part (is_other name) self.old.store }) }
-        ensures held { IfOk result (Holds name self.old.store) }
-        ensures can_be_remembered { IfOk result (λ forgotten. CanBeRemembered name forgotten self.new) }
-        ensures back { IfOk result (λ forgotten. with_remembered name forgotten self.new ≡ self.old) }
+        ensures held { IfOk result (λ forgotten. Holds name self.old.store forgotten.value) }
+        ensures can_be_remembered { IfOk result (λ forgotten. CanBeRemembered name forgotten.value self.new) }
+        ensures back { IfOk result (λ forgotten. with_remembered name forgotten.value self.new ≡ self.old) }
         ensures err { OnErr result (self.new ≡ self.old) }
     {
         let alloc = self.entries.allocator();
         let dots = dots_of_name(&self.entries, name, alloc)?;
         let entries = handles_of(&self.entries, &dots, alloc)?;
-        take_out_each(&mut self.entries, &dots);
         let part = self.seen.drop_name(name);
-        Ok(Forgotten { part, entries })
+        match Box::new(alloc, Forgotten { part, entries }) {
+            Ok(forgotten) => {
+                take_out_each(&mut self.entries, &dots);
+                Ok(forgotten)
+            }
+            Err(failed) => {
+                self.seen.set_part(name, failed.value.part);
+                Err(Oom)
+            }
+        }
     }
 
     /// Puts back `forgotten`, the dots and entries that the store held of the name. If memory is refused, `forgotten`
@@ -56,17 +64,17 @@ impl<A: Allocator + Copy> DeltaStore<A> {
     pub fn remember(
         &mut self,
         name: u16,
-        forgotten: Forgotten<A>,
-    ) -> Result<(), (Forgotten<A>, Oom)>
-        requires { CanBeRemembered name forgotten self.old }
-        ensures ok { OnOk result (self.new ≡ with_remembered name forgotten self.old) }
+        forgotten: Box<Forgotten<A>, A>,
+    ) -> Result<(), (Box<Forgotten<A>, A>, Oom)>
+        requires { CanBeRemembered name forgotten.value self.old }
+        ensures ok { OnOk result (self.new ≡ with_remembered name forgotten.value self.old) }
         ensures err { OnErr result (self.new ≡ self.old) }
         ensures given_back { IfErr result (λ failed. failed.0 ≡ forgotten) }
     {
         if let Err(failed) = put_each(&mut self.entries, &forgotten.entries) {
             return Err((forgotten, failed));
         }
-        self.seen.set_part(name, forgotten.part);
+        self.seen.set_part(name, Box::into_inner(forgotten).part);
         Ok(())
     }
 }

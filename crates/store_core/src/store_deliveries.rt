@@ -84,14 +84,14 @@ impl<A: Allocator + Copy> DeltaStore<A> {
         names: NameSet,
         joining: Vec<Handle<A>, A>,
         leaving: &[Dot],
-    ) -> Result<Delivered<A>, Oom>
+    ) -> Result<Box<Delivered<A>, A>, Oom>
         requires others { set.contains names self.old.own ≡ false }
         requires joining { pairs joining.items ≡ fin.entries (arrivals (set.contains names) (store_of message.now) self.old.store) }
         requires leaving { leaving.now ≡ fin.keys (departures (set.contains names) (store_of message.now) self.old.store) }
         ensures merged { OnOk result (self.new ≡ record self.old { store = merged (set.contains names) (store_of message.now) self.old.store }) }
-        ensures destroyed { IfOk result (Destroys (set.contains names) (store_of message.now) self.old.store) }
-        ensures can_be_undelivered { IfOk result (λ delivered. CanBeUndelivered delivered self.new) }
-        ensures back { IfOk result (λ delivered. with_undelivered delivered self.new ≡ self.old) }
+        ensures destroyed { IfOk result (λ delivered. Destroys (set.contains names) (store_of message.now) self.old.store delivered.value) }
+        ensures can_be_undelivered { IfOk result (λ delivered. CanBeUndelivered delivered.value self.new) }
+        ensures back { IfOk result (λ delivered. with_undelivered delivered.value self.new ≡ self.old) }
         ensures err { OnErr result (self.new ≡ self.old) }
     {
         let alloc = self.entries.allocator();
@@ -103,20 +103,27 @@ impl<A: Allocator + Copy> DeltaStore<A> {
         let joined = dots_of(&joining, alloc)?;
         let parts = old_parts(&self.seen, seen, names, alloc)?;
         let left = handles_of(&self.entries, leaving, alloc)?;
+        let delivered = Box::new(
+            alloc,
+            Delivered {
+                joined,
+                left,
+                parts,
+            },
+        )?;
         put_joining(&mut self.entries, &mut self.seen, &joining, seen, names)?;
         take_out_each(&mut self.entries, leaving);
-        Ok(Delivered {
-            joined,
-            left,
-            parts,
-        })
+        Ok(delivered)
     }
 
     /// Takes a delivery back: the entries that joined go, those that left come back, and the seen dots are those from
     /// before the delivery. If memory is refused, `delivered` comes back, and nothing changes.
-    pub fn undeliver(&mut self, delivered: Delivered<A>) -> Result<(), (Delivered<A>, Oom)>
-        requires { CanBeUndelivered delivered self.old }
-        ensures ok { OnOk result (self.new ≡ with_undelivered delivered self.old) }
+    pub fn undeliver(
+        &mut self,
+        delivered: Box<Delivered<A>, A>,
+    ) -> Result<(), (Box<Delivered<A>, A>, Oom)>
+        requires { CanBeUndelivered delivered.value self.old }
+        ensures ok { OnOk result (self.new ≡ with_undelivered delivered.value self.old) }
         ensures err { OnErr result (self.new ≡ self.old) }
         ensures given_back { IfErr result (λ failed. failed.0 ≡ delivered) }
     {
@@ -124,7 +131,7 @@ impl<A: Allocator + Copy> DeltaStore<A> {
             return Err((delivered, failed));
         }
         take_out_each(&mut self.entries, &delivered.joined);
-        set_parts(&mut self.seen, delivered.parts);
+        set_parts(&mut self.seen, Box::into_inner(delivered).parts);
         Ok(())
     }
 }

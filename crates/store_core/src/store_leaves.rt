@@ -20,12 +20,12 @@ use std::alloc::Allocator;
 impl<A: Allocator + Copy> DeltaStore<A> {
     /// Takes out the own entry at `dot`, also from the delta, which gains `dot` and the fresh dot. The fresh dot is
     /// seen, too. What was destroyed is returned, for `restore`. An `Err` changes nothing.
-    pub fn leave(&mut self, dot: Dot) -> Result<Left<A>, Oom>
+    pub fn leave(&mut self, dot: Dot) -> Result<Box<Left<A>, A>, Oom>
         requires own { dot.name ≡ self.old.own }
         requires live { fin.contains_key self.old.store.entries dot ≡ true }
         requires free { own_clock self.old < last_clock }
         ensures left { OnOk result (self.new ≡ left dot self.old) }
-        ensures stood { IfOk result (λ left. Stood left dot self.old.store self.old.delta) }
+        ensures stood { IfOk result (λ left. Stood left.value dot self.old.store self.old.delta) }
         ensures err { OnErr result (self.new ≡ self.old) }
     {
         let fresh = self.fresh();
@@ -36,7 +36,7 @@ impl<A: Allocator + Copy> DeltaStore<A> {
             dot,
         )?;
         if let Err(failed) = see(&mut self.delta_seen, dot, fresh) {
-            self.entries.put_ready(left.entry);
+            self.entries.put_ready(Box::into_inner(left).entry);
             return Err(failed);
         }
         self.seen.insert(fresh).unwrap();
@@ -54,13 +54,13 @@ impl<A: Allocator + Copy> DeltaStore<A> {
         topic: &Word<A>,
         key: &Word<A>,
         metadata: &Word<A>,
-    ) -> Result<Left<A>, Oom>
+    ) -> Result<Box<Left<A>, A>, Oom>
         requires own { dot.name ≡ self.old.own }
         requires live { fin.contains_key self.old.store.entries dot ≡ true }
         requires free { own_clock self.old < last_clock }
         ensures updated { OnOk result (self.new ≡ joined (record { pid = pid; topic = topic.now; key = key.now; metadata = metadata.now })
             (dropped dot self.old)) }
-        ensures stood { IfOk result (λ left. Stood left dot self.old.store self.old.delta) }
+        ensures stood { IfOk result (λ left. Stood left.value dot self.old.store self.old.delta) }
         ensures err { OnErr result (self.new ≡ self.old) }
     {
         let entry = self.fresh_entry(pid, topic, key, metadata)?;
@@ -76,7 +76,7 @@ impl<A: Allocator + Copy> DeltaStore<A> {
             dot,
             &entry,
         ) {
-            self.entries.put_ready(left.entry);
+            self.entries.put_ready(Box::into_inner(left).entry);
             return Err(failed);
         }
         self.seen.insert(entry.dot()).unwrap();
@@ -89,9 +89,9 @@ impl<A: Allocator + Copy> DeltaStore<A> {
     /// and puts back the entry that left, also into the delta if the delta had it. The delta loses the dot of the entry
     /// that left if the delta didn't have that dot before. If memory is refused, `left` comes back, and nothing
     /// changes.
-    pub fn restore(&mut self, left: Left<A>) -> Result<(), (Left<A>, Oom)>
-        requires { CanBeRestored left self.old }
-        ensures ok { OnOk result (self.new ≡ with_left left self.old) }
+    pub fn restore(&mut self, left: Box<Left<A>, A>) -> Result<(), (Box<Left<A>, A>, Oom)>
+        requires { CanBeRestored left.value self.old }
+        ensures ok { OnOk result (self.new ≡ with_left left.value self.old) }
         ensures err { OnErr result (self.new ≡ self.old) }
         ensures given_back { IfErr result (λ failed. failed.0 ≡ left) }
     {
@@ -106,7 +106,7 @@ impl<A: Allocator + Copy> DeltaStore<A> {
             entry,
             unsent,
             in_delta: _,
-        } = left;
+        } = Box::into_inner(left);
         take_out(&mut self.seen, &mut self.entries, last);
         self.entries.put_ready(entry);
         take_out_beside(&mut self.delta_entries, &mut self.delta_seen, last, &unsent);
@@ -121,13 +121,13 @@ fn take_left<A: Allocator + Copy>(
     delta_entries: &EntrySet<A>,
     delta_seen: &DotSet<A>,
     dot: Dot,
-) -> Result<Left<A>, Oom>
+) -> Result<Box<Left<A>, A>, Oom>
     requires { fin.contains_key entries.old.map dot ≡ true }
     ensures map { OnOk result (entries.new.map ≡ fin.remove entries.old.map dot) }
     ensures room { OnOk result (0 < entries.new.room) }
-    ensures entry { IfOk result (λ left. Some left.entry ≡ option_map (entry_of dot) (fin.get entries.old.map dot)) }
-    ensures unsent { IfOk result (λ left. left.unsent ≡ option_map (entry_of dot) (fin.get delta_entries.now.map dot)) }
-    ensures in_delta { IfOk result (λ left. left.in_delta ≡ set.contains delta_seen.now dot) }
+    ensures entry { IfOk result (λ left. Some left.value.entry ≡ option_map (entry_of dot) (fin.get entries.old.map dot)) }
+    ensures unsent { IfOk result (λ left. left.value.unsent ≡ option_map (entry_of dot) (fin.get delta_entries.now.map dot)) }
+    ensures in_delta { IfOk result (λ left. left.value.in_delta ≡ set.contains delta_seen.now dot) }
     ensures err { OnErr result (entries.new.map ≡ entries.old.map) }
 {
     entries.make_room(1)?;
@@ -136,11 +136,18 @@ fn take_left<A: Allocator + Copy>(
     let Some(entry) = entries.take(dot)? else {
         unreachable!();
     };
-    Ok(Left {
+    let left = Left {
         entry,
         unsent,
         in_delta,
-    })
+    };
+    match Box::new(entries.allocator(), left) {
+        Ok(left) => Ok(left),
+        Err(failed) => {
+            entries.put_ready(failed.value.entry);
+            Err(Oom)
+        }
+    }
 }
 
 /// Takes the entry at `dot` out of the delta's entries, if `left` says that the delta had one.

@@ -58,14 +58,14 @@ impl<A: Allocator> Replica<A> {
     pub(super) fn remember(
         &mut self,
         name: u16,
-        forgotten: Forgotten<A>,
-    ) -> Result<(), (Forgotten<A>, Oom)>
+        forgotten: Box<Forgotten<A>, A>,
+    ) -> Result<(), (Box<Forgotten<A>, A>, Oom)>
     where
         A: Copy,
         requires name { name < most_names }
-        requires new { AreNew (pairs forgotten.entries) self.old.store.entries }
-        requires earlier { IsReplica (with_remembered name forgotten self.old) }
-        ensures ok { OnOk result (self.new ≡ with_remembered name forgotten self.old) }
+        requires new { AreNew (pairs forgotten.value.entries) self.old.store.entries }
+        requires earlier { IsReplica (with_remembered name forgotten.value self.old) }
+        ensures ok { OnOk result (self.new ≡ with_remembered name forgotten.value self.old) }
         ensures err { OnErr result (self.new ≡ self.old) }
         ensures given_back { IfErr result (λ failed. failed.0 ≡ forgotten) }
     {

@@ -51,7 +51,7 @@ returns-clause-leads_back g c = record {
     dot = c.in_ok-dot.dot;
     accepted = c.in_ok-dot.ensures.refused;
     tracked = c.in_ok-dot.ensures.dot;
-    stood = subst (λ (r : Replica). Stood c.in_ok-left.left c.in_ok-dot.dot r.store r.delta) c.self.view_is c.in_ok-left.ensures.stood;
+    stood = subst (λ (r : Replica). Stood c.in_ok-left.left.value c.in_ok-dot.dot r.store r.delta) c.self.view_is c.in_ok-left.ensures.stood;
     gives = ap (replica_of c.self.inside.limits c.self.inside.view) c.in_ok-left.ensures.left ∙ ap (left c.in_ok-dot.dot) c.self.view_is;
   };
   earlier = subst IsReplica c.self.view_is c.self.invariant;

@@ -26,7 +26,7 @@ returns-clause-leads_back g c = record {
   call = record {
     number = c.requires;
     accepted = sym c.permdown_refusal.ensures ∙ c.in_default.is;
-    holds = subst (λ (r : Replica). Holds c.args.name r.store c.in_ok-forgotten.forgotten) c.self.view_is c.in_ok-forgotten.ensures.held;
+    holds = subst (λ (r : Replica). Holds c.args.name r.store c.in_ok-forgotten.forgotten.value) c.self.view_is c.in_ok-forgotten.ensures.held;
     gives = returns-clause-forgotten g c;
   };
   earlier = subst IsReplica c.self.view_is c.self.invariant;

@@ -16,8 +16,8 @@ remember-requires g c = (
   store_fits g.row.A g.A.Allocator (search tt),
   record {
     number = c.requires.name;
-    new = subst (λ (r : Replica). AreNew (pairs c.args.forgotten.entries) r.store.entries) (sym c.self.view_is) c.requires.new;
-    earlier = are_stores _ (subst (λ (r : Replica). IsReplica (with_remembered c.args.name c.args.forgotten r)) (sym c.self.view_is) c.requires.earlier);
+    new = subst (λ (r : Replica). AreNew (pairs c.args.forgotten.value.entries) r.store.entries) (sym c.self.view_is) c.requires.new;
+    earlier = are_stores _ (subst (λ (r : Replica). IsReplica (with_remembered c.args.name c.args.forgotten.value r)) (sym c.self.view_is) c.requires.earlier);
   },
 )
 
@@ -33,7 +33,7 @@ returns-in-Err-clause-given_back g c = c.in-Err.ensures.given_back
 pub invariant_of-self-2 : goal.invariant_of-self-2
 invariant_of-self-2 g c =
     rw (c.in_default.ensures.ok, c.put.ensures)
-    (subst (λ (r : Replica). IsReplica (with_remembered c.args.name c.args.forgotten r)) (sym c.self.view_is) c.requires.earlier)
+    (subst (λ (r : Replica). IsReplica (with_remembered c.args.name c.args.forgotten.value r)) (sym c.self.view_is) c.requires.earlier)
 
 pub returns-clause-ok : goal.returns-clause-ok
-returns-clause-ok g c = rw (c.in_default.ensures.ok, c.put.ensures) (ap (with_remembered c.args.name c.args.forgotten) c.self.view_is)
+returns-clause-ok g c = rw (c.in_default.ensures.ok, c.put.ensures) (ap (with_remembered c.args.name c.args.forgotten.value) c.self.view_is)

@@ -23,16 +23,16 @@ pub restore-requires : goal.restore-requires
 restore-requires g c =
     let h = subst (λ change. ChangeLeadsBack (plain_change change) c.args.self.now c.requires.0) c.in-Leave.is c.requires.1 in (
       store_fits g.row.A g.A.Allocator (search tt),
-      subst (λ r. CanBeRestored c.in-Leave.left (stores_of r)) (sym c.self-in-Leave.view_is)
-          (can_restore c.args.self.now c.requires.0 c.in-Leave.left (restorable_leave c.in-Leave.left c.args.self.now c.requires.0 h)),
+      subst (λ r. CanBeRestored c.in-Leave.left.value (stores_of r)) (sym c.self-in-Leave.view_is)
+          (can_restore c.args.self.now c.requires.0 c.in-Leave.left.value (restorable_leave c.in-Leave.left.value c.args.self.now c.requires.0 h)),
     )
 
 pub restore-requires-in-Update : goal.restore-requires-in-Update
 restore-requires-in-Update g c =
     let h = subst (λ change. ChangeLeadsBack (plain_change change) c.args.self.now c.requires.0) c.in-Update.is c.requires.1 in (
       store_fits g.row.A g.A.Allocator (search tt),
-      subst (λ r. CanBeRestored c.in-Update.left (stores_of r)) (sym c.self-in-Update.view_is)
-          (can_restore c.args.self.now c.requires.0 c.in-Update.left (restorable_update c.in-Update.left c.args.self.now c.requires.0 h)),
+      subst (λ r. CanBeRestored c.in-Update.left.value (stores_of r)) (sym c.self-in-Update.view_is)
+          (can_restore c.args.self.now c.requires.0 c.in-Update.left.value (restorable_update c.in-Update.left.value c.args.self.now c.requires.0 h)),
     )
 
 pub restore_each-requires : goal.restore_each-requires
@@ -48,8 +48,8 @@ pub undeliver-requires : goal.undeliver-requires
 undeliver-requires g c =
     let h = subst (λ change. ChangeLeadsBack (plain_change change) c.args.self.now c.requires.0) c.in-Deliver.is c.requires.1 in (
       store_fits g.row.A g.A.Allocator (search tt),
-      subst (λ r. CanBeUndelivered c.in-Deliver.delivered (stores_of r)) (sym c.self-in-Deliver.view_is)
-          (can_undeliver c.args.self.now c.requires.0 c.in-Deliver.delivered h),
+      subst (λ r. CanBeUndelivered c.in-Deliver.delivered.value (stores_of r)) (sym c.self-in-Deliver.view_is)
+          (can_undeliver c.args.self.now c.requires.0 c.in-Deliver.delivered.value h),
     )
 
 pub put_status-requires : goal.put_status-requires
@@ -69,9 +69,9 @@ remember-requires g c =
       (
         (h.call).number,
         (
-          remembered_new c.in-Permdown.name c.in-Permdown.forgotten c.requires.0 c.args.self.now h.call,
+          remembered_new c.in-Permdown.name c.in-Permdown.forgotten.value c.requires.0 c.args.self.now h.call,
           subst IsReplica
-              (sym (back_holds (OfPermdown c.in-Permdown.name c.in-Permdown.forgotten) c.args.self.now c.requires.0 h)) h.earlier,
+              (sym (back_holds (OfPermdown c.in-Permdown.name c.in-Permdown.forgotten.value) c.args.self.now c.requires.0 h)) h.earlier,
         ),
       ),
     )
@@ -89,7 +89,7 @@ returns-in-Down-clause-ok g c =
 pub returns-in_default-remember-clause-ok : goal.returns-in_default-remember-clause-ok
 returns-in_default-remember-clause-ok g c =
     subst (λ change. ChangeGivesBack (plain_change change) c.args.self.now c.remember.new.self) (sym c.in-Permdown.is)
-    (gives_back (OfPermdown c.in-Permdown.name c.in-Permdown.forgotten) c.args.self.now c.remember.new.self c.in_default-remember.ensures.ok)
+    (gives_back (OfPermdown c.in-Permdown.name c.in-Permdown.forgotten.value) c.args.self.now c.remember.new.self c.in_default-remember.ensures.ok)
 
 pub returns-in-Err-remember : goal.returns-in-Err-remember
 returns-in-Err-remember g c = record {
@@ -108,14 +108,14 @@ returns-in-Join-clause-ok g c =
 pub returns-in_default-clause-ok : goal.returns-in_default-clause-ok
 returns-in_default-clause-ok g c =
     subst (λ change. ChangeGivesBack (plain_change change) c.args.self.now (replica_of c.self-in-Leave.inside.limits c.self-in-Leave.inside.view c.restore.new.self)) (sym c.in-Leave.is)
-    (gives_back (OfLeave c.in-Leave.left) c.args.self.now (replica_of c.self-in-Leave.inside.limits c.self-in-Leave.inside.view c.restore.new.self)
-    (ap (replica_of c.self-in-Leave.inside.limits c.self-in-Leave.inside.view) c.in_default.ensures.ok ∙ ap (λ r. with_left c.in-Leave.left (without_last r)) c.self-in-Leave.view_is))
+    (gives_back (OfLeave c.in-Leave.left.value) c.args.self.now (replica_of c.self-in-Leave.inside.limits c.self-in-Leave.inside.view c.restore.new.self)
+    (ap (replica_of c.self-in-Leave.inside.limits c.self-in-Leave.inside.view) c.in_default.ensures.ok ∙ ap (λ r. with_left c.in-Leave.left.value (without_last r)) c.self-in-Leave.view_is))
 
 pub returns-in_default-restore-clause-ok : goal.returns-in_default-restore-clause-ok
 returns-in_default-restore-clause-ok g c =
     subst (λ change. ChangeGivesBack (plain_change change) c.args.self.now (replica_of c.self-in-Update.inside.limits c.self-in-Update.inside.view c.restore-in-Update.new.self)) (sym c.in-Update.is)
-    (gives_back (OfUpdate c.in-Update.left) c.args.self.now (replica_of c.self-in-Update.inside.limits c.self-in-Update.inside.view c.restore-in-Update.new.self)
-    (ap (replica_of c.self-in-Update.inside.limits c.self-in-Update.inside.view) c.in_default-restore.ensures.ok ∙ ap (λ r. with_left c.in-Update.left (without_last r)) c.self-in-Update.view_is))
+    (gives_back (OfUpdate c.in-Update.left.value) c.args.self.now (replica_of c.self-in-Update.inside.limits c.self-in-Update.inside.view c.restore-in-Update.new.self)
+    (ap (replica_of c.self-in-Update.inside.limits c.self-in-Update.inside.view) c.in_default-restore.ensures.ok ∙ ap (λ r. with_left c.in-Update.left.value (without_last r)) c.self-in-Update.view_is))
 
 pub returns-in_default-restore_each-clause-ok : goal.returns-in_default-restore_each-clause-ok
 returns-in_default-restore_each-clause-ok g c =
@@ -126,8 +126,8 @@ returns-in_default-restore_each-clause-ok g c =
 pub returns-in_default-undeliver-clause-ok : goal.returns-in_default-undeliver-clause-ok
 returns-in_default-undeliver-clause-ok g c =
     subst (λ change. ChangeGivesBack (plain_change change) c.args.self.now (replica_of c.self-in-Deliver.inside.limits c.self-in-Deliver.inside.view c.undeliver.new.self)) (sym c.in-Deliver.is)
-    (gives_back (OfDeliver c.in-Deliver.delivered) c.args.self.now (replica_of c.self-in-Deliver.inside.limits c.self-in-Deliver.inside.view c.undeliver.new.self)
-    (ap (replica_of c.self-in-Deliver.inside.limits c.self-in-Deliver.inside.view) c.in_default-undeliver.ensures.ok ∙ ap (with_undelivered c.in-Deliver.delivered) c.self-in-Deliver.view_is))
+    (gives_back (OfDeliver c.in-Deliver.delivered.value) c.args.self.now (replica_of c.self-in-Deliver.inside.limits c.self-in-Deliver.inside.view c.undeliver.new.self)
+    (ap (replica_of c.self-in-Deliver.inside.limits c.self-in-Deliver.inside.view) c.in_default-undeliver.ensures.ok ∙ ap (with_undelivered c.in-Deliver.delivered.value) c.self-in-Deliver.view_is))
 
 pub returns-in-Err : goal.returns-in-Err
 returns-in-Err g c = record {
@@ -172,15 +172,15 @@ pub invariant_of-self-in-Leave : goal.invariant_of-self-in-Leave
 invariant_of-self-in-Leave g c =
     let h = subst (λ change. ChangeLeadsBack (plain_change change) c.args.self.now c.requires.0) c.in-Leave.is c.requires.1 in
     subst IsReplica
-    (sym (ap (replica_of c.self-in-Leave.inside.limits c.self-in-Leave.inside.view) c.in_default.ensures.ok ∙ ap (λ r. with_left c.in-Leave.left (without_last r)) c.self-in-Leave.view_is
-    ∙ back_holds (OfLeave c.in-Leave.left) c.args.self.now c.requires.0 h)) h.earlier
+    (sym (ap (replica_of c.self-in-Leave.inside.limits c.self-in-Leave.inside.view) c.in_default.ensures.ok ∙ ap (λ r. with_left c.in-Leave.left.value (without_last r)) c.self-in-Leave.view_is
+    ∙ back_holds (OfLeave c.in-Leave.left.value) c.args.self.now c.requires.0 h)) h.earlier
 
 pub invariant_of-self-in-Update : goal.invariant_of-self-in-Update
 invariant_of-self-in-Update g c =
     let h = subst (λ change. ChangeLeadsBack (plain_change change) c.args.self.now c.requires.0) c.in-Update.is c.requires.1 in
     subst IsReplica
-    (sym (ap (replica_of c.self-in-Update.inside.limits c.self-in-Update.inside.view) c.in_default-restore.ensures.ok ∙ ap (λ r. with_left c.in-Update.left (without_last r)) c.self-in-Update.view_is
-    ∙ back_holds (OfUpdate c.in-Update.left) c.args.self.now c.requires.0 h)) h.earlier
+    (sym (ap (replica_of c.self-in-Update.inside.limits c.self-in-Update.inside.view) c.in_default-restore.ensures.ok ∙ ap (λ r. with_left c.in-Update.left.value (without_last r)) c.self-in-Update.view_is
+    ∙ back_holds (OfUpdate c.in-Update.left.value) c.args.self.now c.requires.0 h)) h.earlier
 
 pub invariant_of-self-in-LeaveAll : goal.invariant_of-self-in-LeaveAll
 invariant_of-self-in-LeaveAll g c =
@@ -193,5 +193,5 @@ pub invariant_of-self-in-Deliver : goal.invariant_of-self-in-Deliver
 invariant_of-self-in-Deliver g c =
     let h = subst (λ change. ChangeLeadsBack (plain_change change) c.args.self.now c.requires.0) c.in-Deliver.is c.requires.1 in
     subst IsReplica
-    (sym (ap (replica_of c.self-in-Deliver.inside.limits c.self-in-Deliver.inside.view) c.in_default-undeliver.ensures.ok ∙ ap (with_undelivered c.in-Deliver.delivered) c.self-in-Deliver.view_is
-    ∙ back_holds (OfDeliver c.in-Deliver.delivered) c.args.self.now c.requires.0 h)) h.earlier
+    (sym (ap (replica_of c.self-in-Deliver.inside.limits c.self-in-Deliver.inside.view) c.in_default-undeliver.ensures.ok ∙ ap (with_undelivered c.in-Deliver.delivered.value) c.self-in-Deliver.view_is
+    ∙ back_holds (OfDeliver c.in-Deliver.delivered.value) c.args.self.now c.requires.0 h)) h.earlier

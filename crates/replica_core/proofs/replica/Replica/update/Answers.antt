@@ -54,7 +54,7 @@ returns-clause-leads_back g c =
         dot = c.in_ok-dot.dot;
         accepted = c.in_ok-dot.ensures.refused;
         tracked = c.in_ok-dot.ensures.dot;
-        stood = subst (λ (r : Replica). Stood c.in_ok-left.left c.in_ok-dot.dot r.store r.delta) c.self.view_is c.in_ok-left.ensures.stood;
+        stood = subst (λ (r : Replica). Stood c.in_ok-left.left.value c.in_ok-dot.dot r.store r.delta) c.self.view_is c.in_ok-left.ensures.stood;
         gives = ap (replica_of c.self.inside.limits c.self.inside.view) c.in_ok-left.ensures.updated
             ∙ ap (λ r. joined p (dropped c.in_ok-dot.dot r)) c.self.view_is;
       };

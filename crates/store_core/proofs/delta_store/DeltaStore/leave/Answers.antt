@@ -23,12 +23,12 @@ unwrap-requires g c = c.insert.ensures.next (new_next _ c.args.self.now c.self.v
 
 pub put_ready-requires-clause-absent : goal.put_ready-requires-clause-absent
 put_ready-requires-clause-absent g c =
-    taken_absent c.self.inside.entries.map c.take_left.new.entries.map c.args.dot c.left.inside.entry c.in_ok-left.ensures.map
-    (ap (λ (l : Left). Some l.entry) c.left.view_is ∙ c.in_ok-left.ensures.entry)
+    taken_absent c.self.inside.entries.map c.take_left.new.entries.map c.args.dot c.put_ready.inside.entry c.in_ok-left.ensures.map
+    (ap (λ (l : Left). Some l.entry) (c.put_ready.view_is ∙ c.into_inner.ensures) ∙ c.in_ok-left.ensures.entry)
 
 pub returns-in-Err-clause-err : goal.returns-in-Err-clause-err
 returns-in-Err-clause-err g c =
-    rw ((taken_back c.self.inside.entries.map c.take_left.new.entries.map c.put_ready.new.self.map c.args.dot c.left.inside.entry c.in_ok-left.ensures.map (ap (λ (l : Left). Some l.entry) c.left.view_is ∙ c.in_ok-left.ensures.entry) c.put_ready.ensures), c.in-Err.ensures.err) c.self.view_is
+    rw ((taken_back c.self.inside.entries.map c.take_left.new.entries.map c.put_ready-in-Err.new.self.map c.args.dot c.put_ready.inside.entry c.in_ok-left.ensures.map (ap (λ (l : Left). Some l.entry) (c.put_ready.view_is ∙ c.into_inner.ensures) ∙ c.in_ok-left.ensures.entry) c.put_ready-in-Err.ensures), c.in-Err.ensures.err) c.self.view_is
 
 pub invariant_of-self-2 : goal.invariant_of-self-2
 invariant_of-self-2 g c =
@@ -47,4 +47,4 @@ returns-clause-left g c =
 
 pub invariant_of-self-in-Err : goal.invariant_of-self-in-Err
 invariant_of-self-in-Err g c =
-    rw ((taken_back c.self.inside.entries.map c.take_left.new.entries.map c.put_ready.new.self.map c.args.dot c.left.inside.entry c.in_ok-left.ensures.map (ap (λ (l : Left). Some l.entry) c.left.view_is ∙ c.in_ok-left.ensures.entry) c.put_ready.ensures), c.in-Err.ensures.err) c.self.invariant
+    rw ((taken_back c.self.inside.entries.map c.take_left.new.entries.map c.put_ready-in-Err.new.self.map c.args.dot c.put_ready.inside.entry c.in_ok-left.ensures.map (ap (λ (l : Left). Some l.entry) (c.put_ready.view_is ∙ c.into_inner.ensures) ∙ c.in_ok-left.ensures.entry) c.put_ready-in-Err.ensures), c.in-Err.ensures.err) c.self.invariant

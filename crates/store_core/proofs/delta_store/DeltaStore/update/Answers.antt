@@ -30,8 +30,8 @@ unwrap-requires g c =
 
 pub put_ready-requires-clause-absent : goal.put_ready-requires-clause-absent
 put_ready-requires-clause-absent g c =
-    taken_absent c.self.inside.entries.map c.take_left.new.entries.map c.args.dot c.left.inside.entry c.in_ok-left.ensures.map
-    (ap (λ (l : Left). Some l.entry) c.left.view_is ∙ c.in_ok-left.ensures.entry)
+    taken_absent c.self.inside.entries.map c.take_left.new.entries.map c.args.dot c.put_ready.inside.entry c.in_ok-left.ensures.map
+    (ap (λ (l : Left). Some l.entry) (c.put_ready.view_is ∙ c.into_inner.ensures) ∙ c.in_ok-left.ensures.entry)
 
 pub put_ready-requires-2-clause-absent : goal.put_ready-requires-2-clause-absent
 put_ready-requires-2-clause-absent g c =
@@ -40,7 +40,7 @@ put_ready-requires-2-clause-absent g c =
 
 pub take_unsent-requires : goal.take_unsent-requires
 take_unsent-requires g c =
-    c.in_ok-left.ensures.unsent
+    ap (λ (l : Left). l.unsent) c.deref.ensures ∙ c.in_ok-left.ensures.unsent
     ∙ ap (option_map (entry_of c.args.dot))
     (sym (ap (λ m. fin.get m c.args.dot) c.in_default.ensures.entries
     ∙ get_insert_other c.self.inside.delta_entries.map c.in_ok-entry.entry.dot c.args.dot (presence_of c.in_ok-entry.entry)
@@ -48,7 +48,7 @@ take_unsent-requires g c =
 
 pub returns-in-Err-clause-err : goal.returns-in-Err-clause-err
 returns-in-Err-clause-err g c =
-    rw ((taken_back c.self.inside.entries.map c.take_left.new.entries.map c.put_ready.new.self.map c.args.dot c.left.inside.entry c.in_ok-left.ensures.map (ap (λ (l : Left). Some l.entry) c.left.view_is ∙ c.in_ok-left.ensures.entry) c.put_ready.ensures), c.in-Err.ensures.entries_stay, c.in-Err.ensures.seen_stay) c.self.view_is
+    rw ((taken_back c.self.inside.entries.map c.take_left.new.entries.map c.put_ready-in-Err.new.self.map c.args.dot c.put_ready.inside.entry c.in_ok-left.ensures.map (ap (λ (l : Left). Some l.entry) (c.put_ready.view_is ∙ c.into_inner.ensures) ∙ c.in_ok-left.ensures.entry) c.put_ready-in-Err.ensures), c.in-Err.ensures.entries_stay, c.in-Err.ensures.seen_stay) c.self.view_is
 
 pub invariant_of-self-2 : goal.invariant_of-self-2
 invariant_of-self-2 g c =
@@ -80,4 +80,4 @@ returns-clause-updated g c =
 
 pub invariant_of-self-in-Err : goal.invariant_of-self-in-Err
 invariant_of-self-in-Err g c =
-    rw ((taken_back c.self.inside.entries.map c.take_left.new.entries.map c.put_ready.new.self.map c.args.dot c.left.inside.entry c.in_ok-left.ensures.map (ap (λ (l : Left). Some l.entry) c.left.view_is ∙ c.in_ok-left.ensures.entry) c.put_ready.ensures), c.in-Err.ensures.entries_stay, c.in-Err.ensures.seen_stay) c.self.invariant
+    rw ((taken_back c.self.inside.entries.map c.take_left.new.entries.map c.put_ready-in-Err.new.self.map c.args.dot c.put_ready.inside.entry c.in_ok-left.ensures.map (ap (λ (l : Left). Some l.entry) (c.put_ready.view_is ∙ c.into_inner.ensures) ∙ c.in_ok-left.ensures.entry) c.put_ready-in-Err.ensures), c.in-Err.ensures.entries_stay, c.in-Err.ensures.seen_stay) c.self.invariant
