@@ -8,3 +8,4 @@ pub mod Moved
 pub mod SeenDots
 pub mod Told
 pub mod Walks
+pub mod Chained

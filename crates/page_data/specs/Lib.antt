@@ -4,3 +4,4 @@ pub mod Carried
 pub mod Asked
 pub mod PageData
 pub mod Laws
+pub mod Chains

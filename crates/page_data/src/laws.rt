@@ -1,6 +1,7 @@
 //! The laws of the data, as contracts of functions that do nothing.
 //!
 //! A crate above uses a law by calling its function.
+ghost use Rattle.page_data.specs.Chains.{ChainLaw};
 ghost use Rattle.page_data.specs.Laws.{ChangeLaw, DotsLaw, HopsLaw, PastLaw, PlainLaw, PlainWithLaw, RowsLaw};
 
 /// No `<` stands in the data of a page, so nothing in the data ends the HTML element around it.
@@ -43,4 +44,11 @@ pub fn past_law()
 /// after the delivery. The dot's name must be below the `count` that `hops_at` was given.
 pub fn hops_law()
     ensures { HopsLaw }
+{}
+
+/// How a dot stands at each node, and since which step, is what the hops and the `from` of deliveries tell of it, if the
+/// remaining steps are asked again of a bench that was asked nothing; and to each step they give the chain that
+/// `explain` tells. Each message that was sent must have dots that there can be, as each set of dots has.
+pub fn chain_law()
+    ensures { ChainLaw }
 {}

@@ -5,7 +5,8 @@
 //! node has seen, and, if the call's step sent a message, what that message carries.
 //!
 //! The crate stands on `report_core` (what a call changed of online lists), `transcript_core` (a call as a line of a
-//! script) and `bench_core` (the machine), and names the plain types of the crates below.
+//! script) and `bench_core` (the machine), and names the plain types of the crates below. A law is about the chains of
+//! `explain_core`.
 //!
 //! The modules in reading order: `json`, strings and lists of numbers; `seen`, what a node has seen of each name;
 //! `clocks`, the dots of a name, and how a dot stands; `arriving`, what a delivery changes, and what its node misses;
