@@ -1,5 +1,5 @@
--- The hops of deliveries and `from` give the tracks that `explain` follows, as far as chains go by them.
-use Rattle.std.proofs.Common.{◌≡◌, ℕ, ◌+◌, ◌*◌, ◌<◌, ◌≤◌, ◌==◌, ◌&&◌, ◌||◌, Bool, true, false, cond, if◌then◌else◌, List, [], ◌∷◌, ◌++◌, filter, length}
+-- The `hops` and `from` of deliveries give the tracks that `explain` follows, without the steps that missed or forgot the dot.
+use Rattle.std.proofs.Common.{◌≡◌, ℕ, ◌+◌, ◌*◌, ◌<◌, ◌≤◌, ◌==◌, ◌&&◌, Bool, true, false, cond, if◌then◌else◌, List, [], ◌∷◌, ◌++◌, filter, length}
 use Rattle.std.proofs.Common.{slice_get, Option, Some, None, is_some, option_map, Ok, refl, sym, ap, ap₂, ◌∙◌, subst, append-nil, append_assoc, arith, length-append, reverse}
 use Rattle.std.proofs.lemmas.Bool.{and_left}
 use Rattle.std.proofs.lemmas.List.Elements.{filter-append}
@@ -26,11 +26,11 @@ use Rattle.bench_core.proofs.Reached.{given_holds}
 use Rattle.bench_core.proofs.Runs.{message_stays_at, run_one}
 use Rattle.bench_core.proofs.Taken.{deliver_ok}
 use Rattle.report_core.specs.Shown.{node_in, node_of}
-use Rattle.explain_core.specs.Findings.{Back, backwards, chain, is_came, one_back}
+use Rattle.explain_core.specs.Findings.{Back, backwards, chain, one_back}
 use Rattle.explain_core.specs.Standings.{is_above, is_same, last_message, outbox_of, standing_at, standing_by, standing_in, standing_of, standing_sent}
-use Rattle.explain_core.specs.Tracks.{Track, after_step, delivered_hop, followed, hop_at, hop_of, is_sent, no_track, opened, sender_among}
+use Rattle.explain_core.specs.Tracks.{Track, after_step, delivered_hop, followed, hop_at, hop_of, no_track, opened, sender_among}
 use Rattle.explain_core.specs.Tracks.{sent_hop, stand_at, track_from, track_of, with_hop, with_stand}
-use Rattle.explain_core.specs.Tracks.{received_hop as followed_hop}
+use Rattle.explain_core.specs.Tracks.{received_hop}
 use Rattle.explain_core.specs.declared.hop.Hop.{Hop}
 use Rattle.explain_core.specs.declared.hop.Kind.TheVariants.{Came, Forgot, Missed}
 use Rattle.explain_core.specs.declared.hop.Stand.{Stand}
@@ -38,11 +38,11 @@ use Rattle.explain_core.specs.declared.standing.Standing.{Standing}
 use Rattle.explain_core.specs.declared.standing.Standing.TheVariants.{Unseen, Live, Gone}
 use Rattle.explain_core.proofs.Along.{outbox_at, some_mapped, told_in}
 use Rattle.explain_core.proofs.Asked.{fewer_remain, node_there}
-use Rattle.explain_core.proofs.Changes.{came, delivery_brings, is_delivery}
+use Rattle.explain_core.proofs.Changes.{came, delivery_brings, is_delivery, sent_stays}
 use Rattle.explain_core.proofs.Followed.{Along, SentAs, With, Without, along_more}
 use Rattle.explain_core.proofs.Tracked.{at_start}
 use Rattle.page_data.specs.Carried.{hops_at, message_in}
-use Rattle.page_data.specs.Chains.{AreSentValid, ChainLaw, by_hops, came_hop, number_of, received_by, received_hop, told_after, told_followed, told_from, told_hop, told_track, with_number}
+use Rattle.page_data.specs.Chains.{AreSentValid, TrackLaw, by_hops, came_hop, is_move, number_of, received_by, told_after, told_followed, told_from, told_hop, told_received, told_track, with_number}
 use Rattle.page_data.specs.Laws.{stands_by}
 use Rattle.page_data.proofs.Hopped.{hops_hold}
 
@@ -65,10 +65,7 @@ message_same : (o : Option Node) (p : ℕ) → message_in o p ≡ outbox_of o p
 message_same None p = refl
 message_same (Some node) p = refl
 
--- the hops by which a chain goes
-
-abbrev is_move : Hop → Bool
-is_move h = is_sent h.kind || is_came h.kind
+-- a chain goes by steps that sent the dot or brought it
 
 backwards_moves : (back : Back) (hops : List Hop) → backwards back (filter is_move hops) ≡ backwards back hops
 unfolding backwards
@@ -165,8 +162,8 @@ module _ (m : Machine) (d : Dot) (named : d.name < length m.names) (valid : AreS
   now_is = go (sends k.step) refl (delivers k.step) refl
     where
       go : (b : Bool) → sends k.step ≡ b → (o : Option (ℕ × ℕ)) → delivers k.step ≡ o →
-          (if b then standing_at now k.node d else received_by asked now k d before.standing o) ≡ standing_at now k.node d
-      go true sending o at = refl
+          (if b then before.standing else received_by asked now k d before.standing o) ≡ standing_at now k.node d
+      go true sending o at = old.stands k.node ∙ sym (at_node ∙ sent_stays c next k d fine taken sending)
       go false silent None at = refl
       go false silent (Some p) at = delivered p silent at
 
@@ -214,9 +211,9 @@ module _ (m : Machine) (d : Dot) (named : d.name < length m.names) (valid : AreS
 
       go : (b : Bool) → sends k.step ≡ b → (o : Option (ℕ × ℕ)) → delivers k.step ≡ o →
           (if b then sent_hop k before (last_message now k.node) (standing_sent now k.node (last_message now k.node) d)
-          else received_hop m asked k d before o)
+          else told_received m asked k d before o)
           ≡ only_move (if b then sent_hop k before (last_message now k.node) (standing_sent now k.node (last_message now k.node) d)
-          else followed_hop d now k t.hops before (standing_at now k.node d) o)
+          else received_hop d now k t.hops before (standing_at now k.node d) o)
       go true sending o at = sent_moves k before (last_message now k.node) (standing_sent now k.node (last_message now k.node) d)
       go false silent None at = forgot (is_same (standing_at now k.node d) Unseen && is_above before.standing Unseen)
       go false silent (Some p) at =
@@ -259,9 +256,9 @@ module _ (m : Machine) (d : Dot) (named : d.name < length m.names) (valid : AreS
             ∙ with_move t.hops (hop_at d (after_step asked k) k t.hops (stand_at t.stands k.node));
       }
 
-pub chain_holds : ChainLaw
+pub track_holds : TrackLaw
 unfolding track_of told_track
-chain_holds m d reached valid named =
+track_holds m d reached valid named =
     let given = given_holds (config_of m) m.state reached in
     let few = fewer_remain (config_of m) m.state reached in
     let fits = given.fits in
@@ -270,6 +267,7 @@ chain_holds m d reached valid named =
     (record { stands = refl; hops = refl }) in
     record {
       stands = told.stands;
+      hops = told.hops;
       chains = λ by.
           ap (λ (hops : List Hop). chain hops by) told.hops
           ∙ ap (λ (b : Back). reverse b.1) (backwards_moves (by, []) (track_from d (opened m) m.state.remaining (no_track (length m.names))).hops);

@@ -1,5 +1,5 @@
--- The chains that `explain` tells, by what the data tells of deliveries.
-use Rattle.std.specs.Prelude.{◌≡◌, ℕ, zero, suc, ◌<◌, if◌then◌else◌, List, [], ◌∷◌, length, Option, Some, None}
+-- The tracks by which `explain` finds its chains, with what the data tells of deliveries.
+use Rattle.std.specs.Prelude.{◌≡◌, ℕ, zero, suc, ◌<◌, ◌||◌, Bool, if◌then◌else◌, List, [], ◌∷◌, length, filter, Option, Some, None}
 use Rattle.dots_core.specs.declared.dot.Dot.{Dot}
 use Rattle.dots_core.specs.Dots.{AreValid}
 use Rattle.payload_core.specs.Messages.{Message}
@@ -8,9 +8,9 @@ use Rattle.journal_core.specs.Journals.{Kept, source_of}
 use Rattle.bench_core.specs.Headline.{IsReached}
 use Rattle.bench_core.specs.Machine.{Machine, config_of}
 use Rattle.report_core.specs.Shown.{node_of}
-use Rattle.explain_core.specs.Findings.{chain}
+use Rattle.explain_core.specs.Findings.{chain, is_came}
 use Rattle.explain_core.specs.Standings.{is_same, last_message, standing_at, standing_sent}
-use Rattle.explain_core.specs.Tracks.{Track, after_step, hop_of, no_track, opened, sent_hop, stand_at, track_of, with_hop, with_stand}
+use Rattle.explain_core.specs.Tracks.{Track, after_step, hop_of, is_sent, no_track, opened, sent_hop, stand_at, track_of, with_hop, with_stand}
 use Rattle.explain_core.specs.declared.hop.Hop.{Hop}
 use Rattle.explain_core.specs.declared.hop.Kind.TheVariants.{Came}
 use Rattle.explain_core.specs.declared.hop.Stand.{Stand}
@@ -31,33 +31,34 @@ with_number zero = Unseen
 with_number (suc zero) = Live
 with_number (suc (suc n)) = Gone
 
--- how a dot stands at a node after a delivery, by the hops of the delivery, if it stood as `before`; the machine is that before the delivery
+-- how a dot that stood as `before` stands at a node after a delivery, by the `hops` of the delivery, which are told on the machine before it
 abbrev pub by_hops : Machine → ℕ → ℕ × ℕ → Dot → Standing → Standing
 by_hops asked node p d before =
     with_number (stands_by (hops_at (node_of asked node) (message_in (node_of asked p.0) p.1) (length asked.names)) d (number_of before))
 
--- how a dot stands at the step's node after the step: of a delivery by its hops, else as it is on the machine after the step
+-- how a dot that stood as `before` stands at the step's node after the step: after a send as before, after a delivery by its `hops`, and after
+-- another step as it does on the machine after that
 
 abbrev pub received_by : Machine → Machine → Kept → Dot → Standing → Option (ℕ × ℕ) → Standing
 received_by asked next k d before None = standing_at next k.node d
 received_by asked next k d before (Some p) = by_hops asked k.node p d before
 
 abbrev pub told_after : Machine → Machine → Kept → Dot → Standing → Standing
-told_after asked next k d before = if sends k.step then standing_at next k.node d else received_by asked next k d before (delivers k.step)
+told_after asked next k d before = if sends k.step then before else received_by asked next k d before (delivers k.step)
 
--- of a delivery of a message that step `from` sent: if the dot stands otherwise after it than before, it came
+-- a delivery of a message that step `from` sent: if the dot stands otherwise after it than before, it came
 abbrev pub came_hop : Kept → Stand → Standing → Option ℕ → Option Hop
 came_hop k before after from = if is_same before.standing after then None else Some (hop_of k Came after 0 from)
 
-abbrev pub received_hop : Machine → Machine → Kept → Dot → Stand → Option (ℕ × ℕ) → Option Hop
-received_hop m asked k d before None = None
-received_hop m asked k d before (Some p) = came_hop k before (by_hops asked k.node p d before.standing) (source_of m.state.remaining k.step)
+abbrev pub told_received : Machine → Machine → Kept → Dot → Stand → Option (ℕ × ℕ) → Option Hop
+told_received m asked k d before None = None
+told_received m asked k d before (Some p) = came_hop k before (by_hops asked k.node p d before.standing) (source_of m.state.remaining k.step)
 
--- what a step did to the dot, if it sent or delivered it: of a send by its message, of a delivery by its hops and `from`
+-- what a step did to the dot, if it sent or delivered it: a send by how the dot stands in its message, a delivery by its `hops` and `from`
 abbrev pub told_hop : Machine → Machine → Machine → Kept → Dot → Stand → Option Hop
 told_hop m asked next k d before =
     if sends k.step then sent_hop k before (last_message next k.node) (standing_sent next k.node (last_message next k.node) d)
-    else received_hop m asked k d before (delivers k.step)
+    else told_received m asked k d before (delivers k.step)
 
 -- the track after a step; `asked` is the machine before the step
 unfoldable pub told_followed : Machine → Machine → Kept → Dot → Track → Track
@@ -71,21 +72,26 @@ unfoldable pub told_from : Machine → Dot → Machine → List Kept → Track �
 told_from m d asked [] t = t
 told_from m d asked (k ∷ ks) t = told_from m d (after_step asked k) ks (told_followed m asked k d t)
 
--- the track of a dot without the steps that missed or forgot it, as the data of the remaining steps tells it, which are asked again of a
--- machine that was asked nothing
+-- the track of a dot, without the steps that missed or forgot it, by the `hops` and `from` of deliveries: of the remaining steps, asked again of
+-- a fresh bench
 unfoldable pub told_track : Machine → Dot → Track
 told_track m d = told_from m d (opened m) m.state.remaining (no_track (length m.names))
 
--- each message that a node sent has dots that there can be, as each set of dots has
+-- the dots of each message that a node sent are valid, as those of each set of dots are
 abbrev pub AreSentValid : Machine → Type 0
 AreSentValid m = (node number : ℕ) (message : Message) → message_in (node_of m node) number ≡ Some message → AreValid message.seen
 
--- in a bench that calls lead to, the hops and `from` of deliveries tell how a dot stands at each node, since which step, and the chain that
--- `explain` tells to each step
-abbrev pub ChainLaw : Type 0
-ChainLaw =
+-- whether the step sent the dot, or brought it to its node
+abbrev pub is_move : Hop → Bool
+is_move h = is_sent h.kind || is_came h.kind
+
+-- in a bench that calls lead to, the track by the `hops` and `from` of deliveries is that which `explain` follows, without the steps that missed
+-- or forgot the dot; so the chain to each step is the same
+abbrev pub TrackLaw : Type 0
+TrackLaw =
     (m : Machine) (d : Dot) → IsReached (config_of m) m.state → AreSentValid m → d.name < length m.names →
     record {
       stands : (told_track m d).stands ≡ (track_of m d).stands;
+      hops : (told_track m d).hops ≡ filter is_move (track_of m d).hops;
       chains : (by : Option ℕ) → chain (told_track m d).hops by ≡ chain (track_of m d).hops by;
     }

@@ -1,7 +1,7 @@
 //! The laws of the data, as contracts of functions that do nothing.
 //!
 //! A crate above uses a law by calling its function.
-ghost use Rattle.page_data.specs.Chains.{ChainLaw};
+ghost use Rattle.page_data.specs.Chains.{TrackLaw};
 ghost use Rattle.page_data.specs.Laws.{ChangeLaw, DotsLaw, HopsLaw, PastLaw, PlainLaw, PlainWithLaw, RowsLaw};
 
 /// No `<` stands in the data of a page, so nothing in the data ends the HTML element around it.
@@ -46,9 +46,10 @@ pub fn hops_law()
     ensures { HopsLaw }
 {}
 
-/// How a dot stands at each node, and since which step, is what the hops and the `from` of deliveries tell of it, if the
-/// remaining steps are asked again of a bench that was asked nothing; and to each step they give the chain that
-/// `explain` tells. Each message that was sent must have dots that there can be, as each set of dots has.
-pub fn chain_law()
-    ensures { ChainLaw }
+/// Let the remaining steps be asked again of a fresh bench. If the track of a dot is made by the `hops` and `from` of
+/// deliveries, it is the track that `explain` follows, but for steps that missed or forgot the dot. So the chain that
+/// `explain` finds to each step is the same. What other steps change, and whether a message has the dot, is read off
+/// the bench. The dot's name must be a node's, and the dots of each message that was sent valid.
+pub fn track_law()
+    ensures { TrackLaw }
 {}
