@@ -357,23 +357,7 @@ left_out : (a b c : Bool) → b ≡ false → ((a && b) && c) ≡ false
 left_out true b c e = ap (λ b. b && c) e
 left_out false b c e = refl
 
--- a name that is none of these
-pub union_skip : (names : Names) (name : ℕ) (ps qs rs : List Clocks) → set.contains names name ≡ false →
-    IsUnionFrom names (name + 1) ps qs rs → IsUnionFrom names name ps qs rs
-union_skip names name ps qs rs off h = record {
-  parts = h.parts;
-  clocks = λ n k. h.clocks n k ∙ ap (λ b. holds (part_at ps n) k || b) (go n k (cases_eq n name));
-}
-  where
-    go : (n k : ℕ) → (n ≡ name) ⊎ (n ≢ name) →
-        ((nat_le (name + 1) n && set.contains names n) && holds (part_at qs n) k) ≡
-        ((nat_le name n && set.contains names n) && holds (part_at qs n) k)
-    go n k (inl e) =
-        now_off n name (set.contains names n) (holds (part_at qs n) k) e
-        ∙ sym (left_out (nat_le name n) (set.contains names n) (holds (part_at qs n) k) (ap (set.contains names) e ∙ off))
-    go n k (inr d) = later n name (set.contains names n) (holds (part_at qs n) k) d
-
--- names of which none is one of these with a clock
+-- no name in this range is one of these and has a clock
 none_here : (a b c : Bool) → (b && c) ≡ false → ((a && b) && c) ≡ false
 none_here true b c e = e
 none_here false b c e = refl

@@ -1,6 +1,6 @@
 //! A finite set of dots, kept as a context clock and a cloud for each name.
 
-ghost use Rattle.std.specs.Prelude.{◌≡◌, ℕ, ◌↔◌, ◌^◌, ◌<◌, ◌≤◌, ◌==◌, ◌&&◌, not, IsOk, IsTrue, IfOk, OnOk, OnErr, false, true};
+ghost use Rattle.std.specs.Prelude.{◌≡◌, ◌≢◌, ℕ, ◌↔◌, ◌^◌, ◌<◌, ◌≤◌, ◌==◌, ◌&&◌, not, IsOk, IsTrue, IfOk, OnOk, OnErr, false, true};
 ghost use Rattle.std.specs.FinSet as set;
 ghost use Rattle.dots_core.specs.ClockBits.{AreBitsOf};
 ghost use Rattle.dots_core.specs.Dots.{IsFirstDot, IsValid, AreValid, of_names};
@@ -291,35 +291,37 @@ fn clock_from(dot: Dot, name: u16) -> u64
 }
 
 /// Whether the name is in `names` and its part has a clock.
-fn is_joined<A: Allocator>(parts: &[Part<A>], names: NameSet, name: u16) -> bool
+fn has_some<A: Allocator>(parts: &[Part<A>], names: NameSet, name: u16) -> bool
     requires parts { AreParts parts.now }
     requires name { name < most_names }
-    ensures yes { IsTrue result → set.contains names name ≡ true }
+    ensures named { IsTrue result → set.contains names name ≡ true }
+    ensures some { IsTrue result → part_at parts.now name ≢ no_clocks }
     ensures no { IsTrue (not result) → (k : ℕ) → (set.contains names name && holds (part_at parts.now name) k) ≡ false }
 {
     names.has(name) && !parts[usize::from(name)].is_empty()
 }
 
 /// The first of `names` from `name` on whose part has a clock; 32 if there is none.
-fn next_joined<A: Allocator>(parts: &[Part<A>], names: NameSet, name: u16) -> u16
+fn next_with_some<A: Allocator>(parts: &[Part<A>], names: NameSet, name: u16) -> u16
     requires parts { AreParts parts.now }
     requires name { name ≤ most_names }
     ensures from { name ≤ result }
     ensures most { result ≤ most_names }
-    ensures joined { result < most_names → set.contains names result ≡ true }
+    ensures named { result < most_names → set.contains names result ≡ true }
+    ensures some { result < most_names → part_at parts.now result ≢ no_clocks }
     ensures between { HaveNone names parts.now name result }
 {
     for next in name..MOST_NAMES {
-        if is_joined(parts, names, next) {
+        if has_some(parts, names, next) {
             return next;
         }
     }
     MOST_NAMES
 }
 
-/// Adds the parts of `others` to `parts`, for each of `names` from `name` on; if memory is refused, `parts` stays. On
-/// the way down the recursion makes each union, which may be refused memory; on the way back, when nothing can be
-/// refused any more, the recursion puts each union in its place.
+/// Adds the parts of `others` to `parts`, for each of `names` from `name` on, and passes over names without a clock in
+/// `others`. If memory is refused, `parts` stays. On the way down the recursion makes each union, which may be refused
+/// memory; on the way back, when nothing can be refused any more, the recursion puts each union in its place.
 fn union_from<A: Allocator + Copy>(
     parts: &mut [Part<A>],
     others: &[Part<A>],
@@ -333,7 +335,7 @@ fn union_from<A: Allocator + Copy>(
     ensures ok { OnOk result (IsUnionFrom names name parts.old others.now parts.new) }
     ensures err { OnErr result (parts.new ≡ parts.old) }
 {
-    let next = next_joined(others, names, name);
+    let next = next_with_some(others, names, name);
     if next == MOST_NAMES {
         return Ok(());
     }

@@ -13,7 +13,7 @@ use std::alloc::Allocator;
 use store_core::{Delivered, Forgotten, Left};
 
 /// What one call of a replica destroyed: `Replica::undo` takes the call back with it (Danos and Krivine: causal undo).
-/// What is large stands in a box, as most calls destroy little.
+/// What is large stands in a box: most calls destroy nothing, and whoever keeps a change has room for the largest.
 #[derive(Drop)]
 pub enum Change<A: Allocator> {
     /// A join destroys nothing, and its dot is the last own dot.

@@ -23,10 +23,10 @@ returns-in-Some-clause-ok g t c =
     let grown : IsGrown own other (Some c.in-Some.part) =
     subst (λ (z : Clocks). IsGrown own z (Some c.in-Some.part)) c.index-others-at.is
     (subst (IsGrown own c.index-others-at.result) c.in-Some.is c.in_ok-new.ensures) in
-    let next : c.next_joined-next.result < 32 = omega (arith, c.next_joined-next.ensures.most, c.if-next-eq-MOST_NAMES.false) in
-    let on : set.contains c.args.names c.next_joined-next.result ≡ true = c.next_joined-next.ensures.joined next in
-    union_next c.args.names c.args.name c.next_joined-next.result c.args.parts.now c.args.others.now (slice_set c.union_from.new.parts c.from-at.result c.in-Some.part) c.next_joined-next.ensures.from c.next_joined-next.ensures.between
-    (union_grown_at c.args.names c.next_joined-next.result c.from-at.result c.args.parts.now c.args.others.now c.union_from.new.parts
+    let next : c.next_with_some-next.result < 32 = omega (arith, c.next_with_some-next.ensures.most, c.if-next-eq-MOST_NAMES.false) in
+    let on : set.contains c.args.names c.next_with_some-next.result ≡ true = c.next_with_some-next.ensures.named next in
+    union_next c.args.names c.args.name c.next_with_some-next.result c.args.parts.now c.args.others.now (slice_set c.union_from.new.parts c.from-at.result c.in-Some.part) c.next_with_some-next.ensures.from c.next_with_some-next.ensures.between
+    (union_grown_at c.args.names c.next_with_some-next.result c.from-at.result c.args.parts.now c.args.others.now c.union_from.new.parts
     c.index-parts-at.result c.index-others-at.result c.in-Some.part
     c.requires.own c.requires.other c.from-at.ensures next on grown c.in_ok-union_from.ensures.ok)
 
@@ -37,10 +37,10 @@ returns-clause-ok g t c =
     let grown : IsGrown own other None =
     subst (λ (z : Clocks). IsGrown own z None) c.index-others-at.is
     (subst (IsGrown own c.index-others-at.result) c.in_default.is c.in_ok-new.ensures) in
-    let next : c.next_joined-next.result < 32 = omega (arith, c.next_joined-next.ensures.most, c.if-next-eq-MOST_NAMES.false) in
-    let on : set.contains c.args.names c.next_joined-next.result ≡ true = c.next_joined-next.ensures.joined next in
-    union_next c.args.names c.args.name c.next_joined-next.result c.args.parts.now c.args.others.now c.union_from.new.parts c.next_joined-next.ensures.from c.next_joined-next.ensures.between
-    (union_kept_at c.args.names c.next_joined-next.result c.from-at.result c.args.parts.now c.args.others.now c.union_from.new.parts
+    let next : c.next_with_some-next.result < 32 = omega (arith, c.next_with_some-next.ensures.most, c.if-next-eq-MOST_NAMES.false) in
+    let on : set.contains c.args.names c.next_with_some-next.result ≡ true = c.next_with_some-next.ensures.named next in
+    union_next c.args.names c.args.name c.next_with_some-next.result c.args.parts.now c.args.others.now c.union_from.new.parts c.next_with_some-next.ensures.from c.next_with_some-next.ensures.between
+    (union_kept_at c.args.names c.next_with_some-next.result c.from-at.result c.args.parts.now c.args.others.now c.union_from.new.parts
     c.index-parts-at.result c.index-others-at.result
     c.requires.own c.requires.other c.from-at.ensures next on grown c.in_ok-union_from.ensures.ok)
 
