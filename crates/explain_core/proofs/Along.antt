@@ -46,12 +46,12 @@ pub some_mapped : {A B : Type 0} (f : A → B) (o : Option A) (y : B) → option
 some_mapped f None y is = absurd (cc)
 some_mapped f (Some x) y is = (x, refl, cc)
 
--- who sent a message stays
-pub sender_stays : (first : List Kept) (k : Kept) (n p number : ℕ) → sender_of first n p ≡ Some number → sender_of (first ++ k ∷ []) n p ≡ Some number
-sender_stays first k n p number is =
+-- who sent a message stays, whatever steps follow
+pub sender_stays : (first rest : List Kept) (n p number : ℕ) → sender_of first n p ≡ Some number → sender_of (first ++ rest) n p ≡ Some number
+sender_stays first rest n p number is =
     let sent = some_mapped (λ (j : Kept). j.number) (numbered (sent_by first n) p) number is in
-    ap (λ (ks : List Kept). option_map (λ (j : Kept). j.number) (numbered ks p)) (sent_push first k n)
-    ∙ ap (option_map (λ (j : Kept). j.number)) (numbered_append (sent_by first n) (cond ((k.node == n) && sends k.step) (k ∷ []) []) p sent.0 sent.1)
+    ap (λ (ks : List Kept). option_map (λ (j : Kept). j.number) (numbered ks p)) (filter-append (λ (j : Kept). (j.node == n) && sends j.step) first rest)
+    ∙ ap (option_map (λ (j : Kept). j.number)) (numbered_append (sent_by first n) (sent_by rest n) p sent.0 sent.1)
     ∙ ap Some sent.2
 
 -- what a message of a cluster tells of the dot

@@ -197,14 +197,14 @@ module _ (m : Machine) (d : Dot) (first rest : List Kept) (k : Kept) (c next : C
     delivered = by.delivered;
     source = by.source;
     read = by.read;
-    sent = sender_stays first k by.sender by.message by.source by.sent;
+    sent = sender_stays first (k ∷ []) by.sender by.message by.source by.sent;
     has = told_stays c next k by.sender by.message d h.standing taken by.seen by.has;
     seen = by.seen;
   }
 
   did_still : (h : Hop) (j : Kept) (kind : Kind) → DidBy d first c h j kind → DidBy d longer next h j kind
   did_still h j Sent did =
-      (did.0, sender_stays first k h.node h.message h.number did.1, told_stays c next k h.node h.message d h.standing taken did.3 did.2, did.3)
+      (did.0, sender_stays first (k ∷ []) h.node h.message h.number did.1, told_stays c next k h.node h.message d h.standing taken did.3 did.2, did.3)
   did_still h j Came did = delivered_still h j did
   did_still h j Missed did = delivered_still h j did
   did_still h j Forgot did = did
@@ -227,7 +227,7 @@ module _ (m : Machine) (d : Dot) (first rest : List Kept) (k : Kept) (c next : C
       go : SentAs d first c t.hops n p → (number : ℕ) × (sender_among t.hops n p ≡ Some number) × (sender_of longer n p ≡ Some number)
       go (Without told none) = absurd (some told)
       go (With h found sender told seen) =
-          (h.number, ap (option_map (λ (h : Hop). h.number)) found, sender_stays first k n p h.number sender)
+          (h.number, ap (option_map (λ (h : Hop). h.number)) found, sender_stays first (k ∷ []) n p h.number sender)
 
   among_low : (n p number : ℕ) → sender_among t.hops n p ≡ Some number → number < k.number
   among_low n p number is =

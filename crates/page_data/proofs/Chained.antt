@@ -7,15 +7,14 @@ use Rattle.std.specs.FinMap as fin
 use Rattle.std.specs.FinSet as set
 use Rattle.dots_core.specs.declared.dot.Dot.{Dot}
 use Rattle.dots_core.specs.Dots.{Dots}
-use Rattle.payload_core.specs.Messages.{AreSeen, numbered}
+use Rattle.payload_core.specs.Messages.{AreSeen}
 use Rattle.payload_core.specs.Presences.{Entries, Presence}
 use Rattle.store_core.specs.Stores.{standing}
 use Rattle.replica_core.specs.Deliveries.{merged}
 use Rattle.replica_core.specs.Replicas.{Replica}
 use Rattle.node_core.specs.Nodes.{Node, take, with_replica}
 use Rattle.node_core.specs.Operations.{Operation, Deliver, delivers, sends}
-use Rattle.journal_core.specs.Journals.{Kept, NumbersRise, sender_of, sent_by, source_at, source_of}
-use Rattle.journal_core.proofs.Numbered.{numbered_append}
+use Rattle.journal_core.specs.Journals.{Kept, NumbersRise, sender_of, source_at, source_of}
 use Rattle.bench_core.specs.Clusters.{Cluster, message_for, opening_of, step}
 use Rattle.bench_core.specs.Limits.{node_limits}
 use Rattle.bench_core.specs.Machine.{Machine, cluster_of, config_of}
@@ -36,7 +35,7 @@ use Rattle.explain_core.specs.declared.hop.Kind.TheVariants.{Came, Forgot, Misse
 use Rattle.explain_core.specs.declared.hop.Stand.{Stand}
 use Rattle.explain_core.specs.declared.standing.Standing.{Standing}
 use Rattle.explain_core.specs.declared.standing.Standing.TheVariants.{Unseen, Live, Gone}
-use Rattle.explain_core.proofs.Along.{outbox_at, some_mapped, told_in}
+use Rattle.explain_core.proofs.Along.{outbox_at, sender_stays, told_in}
 use Rattle.explain_core.proofs.Asked.{fewer_remain, node_there}
 use Rattle.explain_core.proofs.Changes.{came, delivery_brings, is_delivery, sent_stays}
 use Rattle.explain_core.proofs.Followed.{Along, SentAs, With, Without, along_more}
@@ -61,7 +60,7 @@ number_in seen entries d = go (fin.get entries d) (set.contains seen d)
     go None true = refl
     go None false = refl
 
-message_same : (o : Option Node) (p : ℕ) → message_in o p ≡ outbox_of o p
+pub message_same : (o : Option Node) (p : ℕ) → message_in o p ≡ outbox_of o p
 message_same None p = refl
 message_same (Some node) p = refl
 
@@ -95,14 +94,6 @@ sent_moves : (k : Kept) (before : Stand) (message : ℕ) (s : Standing) → sent
 sent_moves k before message Unseen = refl
 sent_moves k before message Live = refl
 sent_moves k before message Gone = refl
-
--- who sent a message stays, whatever steps follow
-sender_stays : (first rest : List Kept) (n p number : ℕ) → sender_of first n p ≡ Some number → sender_of (first ++ rest) n p ≡ Some number
-sender_stays first rest n p number is =
-    let sent = some_mapped (λ (j : Kept). j.number) (numbered (sent_by first n) p) number is in
-    ap (λ (ks : List Kept). option_map (λ (j : Kept). j.number) (numbered ks p)) (filter-append (λ (j : Kept). (j.node == n) && sends j.step) first rest)
-    ∙ ap (option_map (λ (j : Kept). j.number)) (numbered_append (sent_by first n) (sent_by rest n) p sent.0 sent.1)
-    ∙ ap Some sent.2
 
 -- one step
 

@@ -9,3 +9,5 @@ pub mod SeenDots
 pub mod Told
 pub mod Walks
 pub mod Chained
+pub mod Recorded
+pub mod SentValid

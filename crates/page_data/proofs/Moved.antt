@@ -4,8 +4,7 @@ use Rattle.std.proofs.lemmas.Bool.{eq-eqb}
 use Rattle.std.proofs.lemmas.Bool.Decides.{nat_tests}
 use Rattle.std.proofs.lemmas.List.Sums.{sum_by-append}
 use Rattle.bench_core.specs.Headline.{IsReached}
-use Rattle.bench_core.specs.Machine.{Event, Machine, config_of, reply_to}
-use Rattle.bench_core.proofs.Invariant.{reached_after}
+use Rattle.bench_core.specs.Machine.{Event, Machine, config_of}
 use Rattle.diff_core.specs.Diffs.{alone}
 use Rattle.diff_core.specs.NetChanges.{ComesTo}
 use Rattle.diff_core.specs.Rows.{Row}
@@ -18,7 +17,7 @@ use Rattle.report_core.specs.ActTexts.{after_act}
 use Rattle.report_core.specs.Shown.{rows_at, rows_in, rows_of}
 use Rattle.report_core.proofs.MovedRows.{rows_in_order}
 use Rattle.page_data.specs.Laws.{RowsLaw, after_calls, come_by, gone_by, of_node}
-use Rattle.page_data.proofs.Stays.{node_stays}
+use Rattle.page_data.proofs.Stays.{node_stays, reached_call}
 
 -- one change, and then more
 both : (start middle end left joined gone come : List Row) → ComesTo start middle left joined → ComesTo middle end gone come →
@@ -73,4 +72,4 @@ rows_hold m node (e ∷ events) reached =
     (of_node node (changed_by m e.actor e.act) (left_by m e.actor e.act)) (of_node node (changed_by m e.actor e.act) (joined_by m e.actor e.act))
     (gone_by node (after_act m e.actor e.act) events) (come_by node (after_act m e.actor e.act) events) (moved m e node reached)
     (rows_hold (after_act m e.actor e.act) node events
-    (reached_after (config_of m) m.state e.actor e.act (reply_to (config_of m) m.state e.actor e.act) reached refl))
+    (reached_call m e.actor e.act reached))

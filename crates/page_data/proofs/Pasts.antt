@@ -24,12 +24,12 @@ use Rattle.bench_core.specs.Headline.{IsReached}
 use Rattle.bench_core.specs.Machine.{Config, Event, Machine, State, after, config_of, do_reply, free_places, given, is_recorded, knows, now, opening_machine, remaining_after, reply_to, step_reply}
 use Rattle.bench_core.specs.NameList.{Texts}
 use Rattle.bench_core.proofs.InTurn.{undo_of, undone_parts}
-use Rattle.bench_core.proofs.Invariant.{reached_after}
 use Rattle.bench_core.proofs.Loop.{find_last}
 use Rattle.bench_core.proofs.Reached.{IsKept, count_push, kept_reached, taken_by_do}
 use Rattle.report_core.specs.ActTexts.{after_act, reply_of}
 use Rattle.report_core.proofs.StepDiffs.{newest}
 use Rattle.page_data.specs.Laws.{Leads, Itself, Next, Link, PastLaw, after_calls, link_to, links_by, links_of}
+use Rattle.page_data.proofs.Stays.{reached_call}
 
 -- what stands right before a step, in a journal
 
@@ -81,7 +81,7 @@ module _ (ks : List Kept) (n : ℕ) (x : Kept) (rises : NumbersRise 0 ks) (found
   number : x.number ≡ n
   number = find_itself ks n x found
 
-  last_same : (j : Kept) → find_number ks j.number ≡ Some j → is_consequence ks x j ≡ false → n ≢ j.number →
+  pub last_same : (j : Kept) → find_number ks j.number ≡ Some j → is_consequence ks x j ≡ false → n ≢ j.number →
       last_of (steps_before (without ks n) j.number) j.node ≡ last_of (steps_before ks j.number) j.node
   last_same j there free apart =
       last_stays 0 ks n j.number j.node j None rises apart there
@@ -89,7 +89,7 @@ module _ (ks : List Kept) (n : ℕ) (x : Kept) (rises : NumbersRise 0 ks) (found
       subst (λ (y : Kept). ((y.node == j.node) && nat_lt y.number j.number) ≡ false) same
       (or_parts ((x.node == j.node) && nat_lt x.number j.number) (delivers_from ks j x) free).0)
 
-  source_same : (j : Kept) → is_consequence ks x j ≡ false → source_of (without ks n) j.step ≡ source_of ks j.step
+  pub source_same : (j : Kept) → is_consequence ks x j ≡ false → source_of (without ks n) j.step ≡ source_of ks j.step
   source_same j free =
       source_kept ks n x j.step (split 0 ks n x rises found) none
       (subst (λ p. is_number (source_of ks j.step) p ≡ false) number
@@ -119,11 +119,11 @@ module _ (ks : List Kept) (n : ℕ) (x : Kept) (rises : NumbersRise 0 ks) (found
       })
       ks (each_both _ _ ks said others)
 
--- a step at the end
+-- a step among others, by their numbers
 
-before_last : (ks : List Kept) (x : Kept) (n : ℕ) → x.number ≡ n → AreBelow n ks → steps_before (ks ++ x ∷ []) n ≡ ks
-before_last [] x n is low = rw (eq-eqb x.number n is) refl
-before_last (y ∷ ks) x n is low = rw (ne_eqb y.number n (λ e. let h = low.0 in omega arith)) (ap (λ l. y ∷ l) (before_last ks x n is low.1))
+pub before_it : (ks rest : List Kept) (x : Kept) (n : ℕ) → x.number ≡ n → AreBelow n ks → steps_before (ks ++ x ∷ rest) n ≡ ks
+before_it [] rest x n is low = rw (eq-eqb x.number n is) refl
+before_it (y ∷ ks) rest x n is low = rw (ne_eqb y.number n (λ e. let h = low.0 in omega arith)) (ap (λ l. y ∷ l) (before_it ks rest x n is low.1))
 
 link_step : (step : ℕ) (o : Option ℕ) (l : Link) → Contains (link_to step o) l → l.step ≡ step
 link_step step None l c = let lt = c.1 in absurd (omega arith)
@@ -163,7 +163,7 @@ module _ (ks : List Kept) (x : Kept) (links : List Link) (low : AreBelow x.numbe
   source_new = sym (source_same all x.number x rises found none x not_itself) ∙ ap (λ l. source_of l x.step) back
 
   last_new : last_of (steps_before all x.number) x.node ≡ last_of ks x.node
-  last_new = ap (λ l. last_of l x.node) (before_last ks x x.number refl low)
+  last_new = ap (λ l. last_of l x.node) (before_it ks [] x x.number refl low)
 
   said_new : ((k : ℕ) → Contains links (link x.number k) → ⊥) → Said (links ++ more) all x
   said_new fresh = record {
@@ -223,7 +223,7 @@ record Tell (m : Machine) (links : List Link) : Type 0 where
   said : Each (Said links m.state.remaining) m.state.remaining
   low : (l : Link) → Contains links l → l.step ≤ given m.state.history
 
-taken_number : (c : Config) (s : State) (actor : ℕ) (operation : Operation) (k : ℕ) → do_reply c s actor operation ≡ Taken k → k ≡ given s.history + 1
+pub taken_number : (c : Config) (s : State) (actor : ℕ) (operation : Operation) (k : ℕ) → do_reply c s actor operation ≡ Taken k → k ≡ given s.history + 1
 taken_number c s actor operation k = go (not (knows c actor operation)) (nat_lt (free_places c s) 2) (now c s >>= λ cluster. step cluster actor operation)
   where
     go : (a b : Bool) (r : Result Cluster Fault) →
@@ -323,10 +323,6 @@ module _ (m : Machine) (actor : ℕ) (act : Action) (links : List Link) (reached
   unfolding after_act reply_of
   tell_call = by_reply (reply_of m actor act) refl
 
-  reached_call : IsReached (config_of (after_act m actor act)) (after_act m actor act).state
-  unfolding after_act
-  reached_call = reached_after (config_of m) m.state actor act (reply_to (config_of m) m.state actor act) reached refl
-
 record Behind (m : Machine) (links : List Link) : Type 0 where
   tell : Tell m links
   reached : IsReached (config_of m) m.state
@@ -339,7 +335,7 @@ tell_calls m links (e ∷ events) reached old =
     subst (Behind (after_calls (after_act m e.actor e.act) events))
     (append_assoc links (links_of m e.actor e.act (reply_of m e.actor e.act)) (links_by (after_act m e.actor e.act) events))
     (tell_calls (after_act m e.actor e.act) (links ++ links_of m e.actor e.act (reply_of m e.actor e.act)) events
-    (reached_call m e.actor e.act links reached old) (tell_call m e.actor e.act links reached old))
+    (reached_call m e.actor e.act reached) (tell_call m e.actor e.act links reached old))
 
 -- what stands right before a step is one that it follows from
 

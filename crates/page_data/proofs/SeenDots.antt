@@ -8,11 +8,10 @@ use Rattle.std.proofs.Math.Seq.{set-append_seam}
 use Rattle.bench_core.specs.Clusters.{Cluster, opening_of, step}
 use Rattle.bench_core.specs.Headline.{IsReached}
 use Rattle.bench_core.specs.Limits.{node_limits}
-use Rattle.bench_core.specs.Machine.{Event, Machine, config_of, reply_to}
+use Rattle.bench_core.specs.Machine.{Event, Machine, config_of}
 use Rattle.bench_core.specs.Runs.{then_runs}
 use Rattle.bench_core.specs.declared.fault.Fault.{Fault}
 use Rattle.bench_core.proofs.Clusters.{stepped}
-use Rattle.bench_core.proofs.Invariant.{reached_after}
 use Rattle.bench_core.proofs.Openings.{opening_length}
 use Rattle.bench_core.proofs.Reached.{IsKept, kept_reached}
 use Rattle.journal_core.specs.Journals.{Kept}
@@ -25,7 +24,7 @@ use Rattle.page_data.specs.Laws.{DotsLaw, after_calls, applied, dots_by, of_node
 use Rattle.page_data.specs.Seen.{all_seen, change_of, changes_in, changes_of, is_same, nothing_seen, seen_at, seen_in, seen_of}
 use Rattle.page_data.specs.declared.seen.Seen.{Seen}
 use Rattle.page_data.proofs.Moved.{one_of}
-use Rattle.page_data.proofs.Stays.{node_stays}
+use Rattle.page_data.proofs.Stays.{node_stays, reached_call}
 
 -- one change, and then more
 
@@ -137,10 +136,6 @@ module _ (m : Machine) (e : Event) (node : ℕ) (reached : IsReached (config_of 
   abbrev next : Machine
   next = after_act m e.actor e.act
 
-  next_reached : IsReached (config_of next) next.state
-  unfolding after_act
-  next_reached = reached_after (config_of m) m.state e.actor e.act (reply_to (config_of m) m.state e.actor e.act) reached refl
-
   same_names : next.names ≡ m.names
   unfolding after_act
   same_names = refl
@@ -164,7 +159,7 @@ module _ (m : Machine) (e : Event) (node : ℕ) (reached : IsReached (config_of 
   told_here : Told (node_of m node) (node_of next node)
   told_here =
       let old = cluster_at m reached node in
-      let new = cluster_at next next_reached node in
+      let new = cluster_at next (reached_call m e.actor e.act reached) node in
       subst₂ Told (sym old.1) (sym new.1) (by_nodes old.0 new.0 old.2 (new.2 ∙ ap length same_names))
 
   told : applied (of_node node (changed_by m e.actor e.act) (changes_in (seen_by m node) (node_of next node) (length m.names))) (seen_by m node) ≡ seen_by next node
@@ -214,4 +209,4 @@ dots_hold m node [] reached = refl
 dots_hold m node (e ∷ events) reached =
     told_more m e node reached (dots_by node (after_act m e.actor e.act) events) (seen_by m node)
     ∙ ap (applied (dots_by node (after_act m e.actor e.act) events)) (told m e node reached)
-    ∙ dots_hold (after_act m e.actor e.act) node events (next_reached m e node reached)
+    ∙ dots_hold (after_act m e.actor e.act) node events (reached_call m e.actor e.act reached)

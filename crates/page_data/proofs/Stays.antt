@@ -1,5 +1,5 @@
--- A call changes one node at most.
-use Rattle.std.proofs.Common.{◌≡◌, ◌≢◌, ℕ, List, Option, None, Some, option_map, unwrap_or, slice_get, slice_set, refl, sym, ap, ◌∙◌, length}
+-- A call changes one node at most. Calls lead on from a machine that calls lead to.
+use Rattle.std.proofs.Common.{◌≡◌, ◌≢◌, ℕ, List, [], ◌∷◌, Option, None, Some, option_map, unwrap_or, slice_get, slice_set, refl, sym, ap, ◌∙◌, length}
 use Rattle.bench_core.specs.declared.reply.Reply.{Reply}
 use Rattle.bench_core.specs.declared.reply.Reply.TheVariants.{Taken, Undone, Refused}
 use Rattle.bench_core.specs.declared.fault.Fault.{Fault}
@@ -8,7 +8,7 @@ use Rattle.bench_core.specs.Clusters.{Cluster}
 use Rattle.bench_core.specs.Headline.{IsReached}
 use Rattle.bench_core.specs.Laws.{with_node_of}
 use Rattle.bench_core.specs.Limits.{node_limits}
-use Rattle.bench_core.specs.Machine.{Machine, config_of, remaining_after, reply_to}
+use Rattle.bench_core.specs.Machine.{Event, Machine, config_of, remaining_after, reply_to}
 use Rattle.bench_core.specs.Runs.{runs}
 use Rattle.bench_core.proofs.Clusters.{get-set_other}
 use Rattle.bench_core.proofs.InTurn.{undo_of, undone_parts}
@@ -21,6 +21,7 @@ use Rattle.report_core.specs.ActRows.{changed_by}
 use Rattle.report_core.specs.ActTexts.{after_act, reply_of}
 use Rattle.report_core.specs.Shown.{changed, node_in, node_of, node_of_step}
 use Rattle.report_core.proofs.StepDiffs.{newest}
+use Rattle.page_data.specs.Laws.{after_calls}
 
 -- of a cluster that has another node at one place the others are the same
 with_node : (n node : ℕ) (old c : Cluster) → n ≢ node → slice_get (with_node_of node old c) n ≡ slice_get c n
@@ -44,6 +45,19 @@ left_alone m s k n x is reached found free other =
     ∙ ap (λ r. node_in r n) left.2 ∙ with_node n x.node left.0 kept.cluster other
     ∙ sym (ap (λ r. node_in r n) kept.is_now)
 
+-- calls lead on from a machine that calls lead to
+
+pub reached_call : (m : Machine) (actor : ℕ) (act : Action) → IsReached (config_of m) m.state →
+    IsReached (config_of (after_act m actor act)) (after_act m actor act).state
+unfolding after_act
+reached_call m actor act reached = reached_after (config_of m) m.state actor act (reply_to (config_of m) m.state actor act) reached refl
+
+pub reached_calls : (m : Machine) (events : List Event) → IsReached (config_of m) m.state →
+    IsReached (config_of (after_calls m events)) (after_calls m events).state
+unfolding after_calls
+reached_calls m [] reached = reached
+reached_calls m (e ∷ events) reached = reached_calls (after_act m e.actor e.act) events (reached_call m e.actor e.act reached)
+
 module _ (m : Machine) (actor : ℕ) (act : Action) (node : ℕ) (reached : IsReached (config_of m) m.state)
     (other : changed_by m actor act ≢ Some node) where
   abbrev new : Machine
@@ -54,8 +68,7 @@ module _ (m : Machine) (actor : ℕ) (act : Action) (node : ℕ) (reached : IsRe
   taken_stays k took =
       let now = newest m new actor act k reached took refl in
       let apart : node ≢ now.step.node = λ same. other (ap (changed m.state.remaining actor) took ∙ ap Some (sym now.of ∙ sym same)) in
-      sym (left_alone new new.state.remaining k node now.step refl (reached_after (config_of m) m.state actor act (reply_to (config_of m) m.state actor act) reached refl)
-      now.found now.free apart)
+      sym (left_alone new new.state.remaining k node now.step refl (reached_call m actor act reached) now.found now.free apart)
       ∙ ap (λ ks. node_in (runs (node_limits m.limits) (length m.names) ks) node) now.out
 
   undone_stays : (k : ℕ) → reply_of m actor act ≡ Undone k → node_of new node ≡ node_of m node

@@ -1,12 +1,15 @@
--- The tracks by which `explain` finds its chains, with what the data tells of deliveries.
+-- The tracks by which `explain` finds its chains, with what the data tells of deliveries; and that the data tells it of a run with undos, too.
 use Rattle.std.specs.Prelude.{◌≡◌, ℕ, zero, suc, ◌<◌, ◌||◌, Bool, if◌then◌else◌, List, [], ◌∷◌, length, filter, Option, Some, None}
 use Rattle.dots_core.specs.declared.dot.Dot.{Dot}
 use Rattle.dots_core.specs.Dots.{AreValid}
 use Rattle.payload_core.specs.Messages.{Message}
-use Rattle.node_core.specs.Operations.{delivers, sends}
-use Rattle.journal_core.specs.Journals.{Kept, source_of}
+use Rattle.node_core.specs.Operations.{Operation, delivers, sends}
+use Rattle.journal_core.specs.Journals.{Kept, find_number, last_of, source_of, steps_before}
 use Rattle.bench_core.specs.Headline.{IsReached}
-use Rattle.bench_core.specs.Machine.{Machine, config_of}
+use Rattle.bench_core.specs.declared.reply.Reply.TheVariants.{Taken}
+use Rattle.bench_core.specs.Acts.{Do}
+use Rattle.bench_core.specs.Machine.{Event, Machine, config_of}
+use Rattle.report_core.specs.ActTexts.{after_act, reply_of}
 use Rattle.report_core.specs.Shown.{node_of}
 use Rattle.explain_core.specs.Findings.{chain, is_came}
 use Rattle.explain_core.specs.Standings.{is_same, last_message, standing_at, standing_sent}
@@ -17,7 +20,8 @@ use Rattle.explain_core.specs.declared.hop.Stand.{Stand}
 use Rattle.explain_core.specs.declared.standing.Standing.{Standing}
 use Rattle.explain_core.specs.declared.standing.Standing.TheVariants.{Unseen, Live, Gone}
 use Rattle.page_data.specs.Carried.{hops_at, message_in}
-use Rattle.page_data.specs.Laws.{stands_by}
+use Rattle.page_data.specs.Laws.{after_calls, stands_by}
+use Rattle.page_data.specs.PageData.{arrival_keys}
 
 -- the number of a standing in the data
 abbrev pub number_of : Standing → ℕ
@@ -77,9 +81,13 @@ told_from m d asked (k ∷ ks) t = told_from m d (after_step asked k) ks (told_f
 unfoldable pub told_track : Machine → Dot → Track
 told_track m d = told_from m d (opened m) m.state.remaining (no_track (length m.names))
 
--- the dots of each message that a node sent are valid, as those of each set of dots are
+-- the dots of each message that the node sent are valid, as those of each set of dots are
+abbrev pub IsSentValid : Machine → ℕ → Type 0
+IsSentValid m node = (number : ℕ) (message : Message) → message_in (node_of m node) number ≡ Some message → AreValid message.seen
+
+-- each node's are
 abbrev pub AreSentValid : Machine → Type 0
-AreSentValid m = (node number : ℕ) (message : Message) → message_in (node_of m node) number ≡ Some message → AreValid message.seen
+AreSentValid m = (node : ℕ) → IsSentValid m node
 
 -- whether the step sent the dot, or brought it to its node
 abbrev pub is_move : Hop → Bool
@@ -95,3 +103,34 @@ TrackLaw =
       hops : (told_track m d).hops ≡ filter is_move (track_of m d).hops;
       chains : (by : Option ℕ) → chain (told_track m d).hops by ≡ chain (track_of m d).hops by;
     }
+
+-- the machine after these steps
+unfoldable pub after_steps : Machine → List Kept → Machine
+after_steps asked [] = asked
+after_steps asked (k ∷ ks) = after_steps (after_step asked k) ks
+
+-- the machine before step n, if the remaining steps are asked again of a fresh bench
+abbrev pub before_step : Machine → ℕ → Machine
+before_step m n = after_steps (opened m) (steps_before m.state.remaining n)
+
+-- a step that remains was told, on the machine `recorded` right before its recorded call, as it is told if the remaining steps are asked again:
+-- its node and the message that it delivers are the same, so `missed` and `hops` are; `prev` and `from` name the same steps
+pub record IsToldAlike (recorded m : Machine) (k : Kept) : Type 0 where
+  pub own : node_of recorded k.node ≡ node_of (before_step m k.number) k.node
+  pub message : (p : ℕ × ℕ) → delivers k.step ≡ Some p →
+      message_in (node_of recorded p.0) p.1 ≡ message_in (node_of (before_step m k.number) p.0) p.1
+  pub arrival : arrival_keys recorded k.node k.step ≡ arrival_keys (before_step m k.number) k.node k.step
+  pub prev : last_of recorded.state.remaining k.node ≡ last_of (steps_before m.state.remaining k.number) k.node
+  pub from : source_of recorded.state.remaining k.step ≡ source_of m.state.remaining k.step
+
+-- the machine after a step was asked and further calls were made
+abbrev pub after_more : Machine → ℕ → Operation → List Event → Machine
+after_more m actor operation later = after_calls (after_act m actor (Do operation)) later
+
+-- a step that was taken as number n, and remains after whatever calls came later, was told in its recorded call as it is told if the remaining
+-- steps are asked again
+abbrev pub RecordedLaw : Type 0
+RecordedLaw =
+    (m : Machine) (later : List Event) (actor n : ℕ) (operation : Operation) (k : Kept) → IsReached (config_of m) m.state →
+    reply_of m actor (Do operation) ≡ Taken n → find_number (after_more m actor operation later).state.remaining n ≡ Some k →
+    (k ≡ record { number = n; node = actor; step = operation }) × IsToldAlike m (after_more m actor operation later) k

@@ -1,8 +1,12 @@
-//! The laws of the data, as contracts of functions that do nothing.
+//! The laws of the data, as contracts of functions that change nothing.
 //!
 //! A crate above uses a law by calling its function.
-ghost use Rattle.page_data.specs.Chains.{TrackLaw};
+ghost use Rattle.page_data.specs.Chains.{AreSentValid, IsSentValid, RecordedLaw, TrackLaw};
 ghost use Rattle.page_data.specs.Laws.{ChangeLaw, DotsLaw, HopsLaw, PastLaw, PlainLaw, PlainWithLaw, RowsLaw};
+
+use bench_core::Bench;
+use report_core::node;
+use std::alloc::Allocator;
 
 /// No `<` stands in the data of a page, so nothing in the data ends the HTML element around it.
 pub fn plain_law()
@@ -49,7 +53,37 @@ pub fn hops_law()
 /// Let the remaining steps be asked again of a fresh bench. If the track of a dot is made by the `hops` and `from` of
 /// deliveries, it is the track that `explain` follows, but for steps that missed or forgot the dot. So the chain that
 /// `explain` finds to each step is the same. What other steps change, and whether a message has the dot, is read off
-/// the bench. The dot's name must be a node's, and the dots of each message that was sent valid.
+/// the bench. The dot's name must be a node's, and the dots of each message that was sent must be valid, as `sent_law`
+/// says of each bench.
 pub fn track_law()
     ensures { TrackLaw }
 {}
+
+/// In its recorded call, a step that remains was told as it is told if the remaining steps are asked again of a fresh
+/// bench, whatever was undone since. The step's node is the same right before the step, and so is the message that the
+/// step delivers; so `missed` and the `hops` of the delivery are the same. `prev` and `from` name the same steps, by
+/// the numbers of the recorded run. So the recorded calls have the `hops` and the `from` of `track_law`.
+pub fn recorded_law()
+    ensures { RecordedLaw }
+{}
+
+/// The dots of each message that the node sent are valid, if there is such a node.
+fn node_sent_law<'a, B: Allocator>(bench: &Bench<'a, B>, number: u16)
+    ensures { IsSentValid bench.now number }
+{
+    if let Some(node) = node(bench, number) {
+        node.node_law();
+    }
+}
+
+/// In each bench, the dots of each message that a node sent are valid, as `track_law` asks. `Bench::bench_law` says
+/// what else it asks: that calls lead to the state of the bench.
+pub fn sent_law<'a, B: Allocator>(bench: &Bench<'a, B>)
+    ensures { AreSentValid bench.now }
+{
+    // form: hands out what the bench keeps
+    bench.bench_law();
+    for number in 0..bench.names().len() as u16 {
+        node_sent_law(bench, number);
+    }
+}
